@@ -13,7 +13,7 @@ INTO =
 JOBS =
 PREBUILT = prebuilt/x86_64-linux
 
-.PHONY: help kit no_goal check crates-line quick play test examples ctf-check api edits mutants rows soak fuzz build bench bench-instructions bench-peers bench-tracer bench-waits build-bench picture lib c-check install uninstall dist deb
+.PHONY: help kit no_goal check crates-line quick play test examples ctf-check api edits mutants rows soak fuzz build bench bench-instructions bench-peers bench-tracer bench-waits bench-memory bench-sustained build-bench picture lib c-check install uninstall dist deb
 
 help:
 	@echo "make play SCHEDULE=FILE         plays a schedule, as examples/tutorial/01-three-traces.schedule"
@@ -129,6 +129,14 @@ bench-tracer:
 # How long a thread that records waits beside a tracer's consumer, of PATHS paths (100,000), beside a control.
 bench-waits:
 	@sh tools/waits $(PATHS)
+
+# What a tracer takes of memory, beside a ring written by hand and, where it is installed, LTTng-UST.
+bench-memory:
+	@sh tools/memory
+
+# How many records a second are kept without a loss, and what each takes of the consumer's processor, in plays of SECONDS (2).
+bench-sustained:
+	@sh tools/sustained $(SECONDS)
 
 build-bench: kit
 	@cd crates/bench && rt run > /dev/null

@@ -55,13 +55,15 @@
  * ACROSS PROCESSES. A request may fail in one process when others that it went through have answered already. With park_bytes a path that has a key (dspec_path_key) is parked at
  * its end (dspec_path_park): its records are in a ring of its lane, and no slot is taken. A key that turns out to matter is told by dspec_tracer_keep_key, and all paths of
  * that key are kept, with DSPEC_WHY_KEY. on_keep tells the program of each key whose path was kept here for another reason, once while it is remembered, and after the path is
- * written where its lane can be had. The program tells the other processes. A path stays parked for park_ms, and up to an eighth of that and a period longer, unless newer paths need its
+ * written where its lane can be had. On a full disk 4,096 keys wait for that, and then they are told before their paths are written. A crash calls on_keep too, before the
+ * process ends, so that call is to take less than crash_ms. The program tells the other processes. A path stays parked for park_ms, and up to an eighth of that and a period longer, unless newer paths need its
  * room. Where an idle tracer has paths that are too old, they go before the next key is looked for. What is parked when a process ends is thrown away, and a crash keeps none of it.
  *
  * KILL -9. With survive all that the tracer has is in a file that outlives the process, FOLDER-memory, of mode 0600. dspec_salvage reads it. A stop takes the file
  * away; where it can't, the report's why says so. A crash takes it away if the folder has all that is in it. A start may find such a file of a run that didn't
  * stop. It puts that aside as FOLDER-memory-1 .., of which eight stay, and tracer->why says so though the start went well. On a full disk what was kept stays in
- * that memory until there is room, and dspec_tracer_flush answers false.
+ * that memory until there is room, and dspec_tracer_flush answers false. A parked path whose key is told then stays parked, and is kept once there is room. Its key is
+ * remembered meanwhile. Where it expires or is evicted before, it is missed.
  */
 #ifndef DSPEC_TRACER_H
 #define DSPEC_TRACER_H
@@ -147,7 +149,7 @@ typedef struct dspec_tracer_report {
     uint64_t park_expired;      /* those whose time was over; likewise */
     uint64_t park_left;         /* those that are parked still, and at the stop are thrown away */
     uint64_t park_least_ms;     /* so long was each path parked at the least that made room; 2^64 - 1: none did */
-    uint64_t key_missed;        /* paths that had been parked and were gone when their key came, as far as that is remembered */
+    uint64_t key_missed;        /* paths that had been parked and were gone when the consumer came to their key; a ring remembers twice as many as it has places */
     uint64_t keys_refused;      /* keys that found 4,096 others waiting, or 32,768 remembered: nothing is kept by them */
 } dspec_tracer_report;
 
@@ -349,12 +351,12 @@ typedef struct dspec_salvaged {
     char why[256];        /* why it answered false */
 } dspec_salvaged;
 
-/* Reads the file that a tracer with `survive` left when it was killed, and writes what the run's own folder doesn't have: into `folder`/kept the records that were
- * kept, and into `folder`/undecided those of paths that were open, each event by a name that begins with `undecided_`. Both are traces. Nobody may use the file. It has
- * to be this user's, and of the same build of the library (dspec_build). It is read once: it is marked when all of it was read and what was written is on the disk. A
- * copy of a file that is in use can be read. The call believes nothing of what a file says. Whatever its bytes are, what doesn't fit is an error or a shorter trace.
- * Each lane is read in a process of its own, which can write what it found and nothing else. The call answers whether all lanes were read and written. If not,
- * told->why says why. told may be NULL. */
+/* Reads the file that a tracer with `survive` left when it was killed, and writes what the run's own folder doesn't have. The records that were kept go into
+ * `folder`/kept, those of paths that were open into `folder`/undecided. There the name of each event begins with `undecided_`, and after each path is `dspec_kept`.
+ * Both are traces. Nobody may use the file. It has to be this user's, and of the same build of the library (dspec_build). It is read once: it is marked when all of
+ * it was read and what was written is on the disk. A copy of a file that is in use can be read. The call believes nothing of what a file says. Whatever its bytes
+ * are, what doesn't fit is an error or a shorter trace. Each lane is read in a process of its own, which can write what it found and nothing else. The call answers
+ * whether all lanes were read and written. If not, told->why says why. told may be NULL. */
 bool dspec_salvage(const char *file, const char *folder, dspec_salvaged *told) DSPEC_NOEXCEPT;
 
 /* Nanoseconds of the system's monotonic clock, whatever clock a tracer has. */

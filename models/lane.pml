@@ -8,6 +8,8 @@
  *   GIVEUP 1: each bounded wait may be over at any time; 0: none is, but where a thread crashed
  *   REFUSED 1: the system may refuse membarrier(2) from any time on; LOCKED: it isn't there at all
  *   SLEEPS: before each round the consumer sleeps where it would find nothing, until somebody stirs it
+ *   KEEPS: at the end of its last path a thread may keep its lane, by one of KEEPERS flags; STARTS_KEPT: thread 0 does so from the start; KEEPS_ONCE: then alone
+ *   WANTS: thread 1 makes nothing but a call on a lane that it claims or takes over, and gives that up
  *   USES_END, USES_PLAIN, HANDS: which calls the threads make, so that no other is compiled
  *   F_..: a planted fault
  */
@@ -55,7 +57,9 @@
 #define IDLE 8
 #define SHARED 16
 #define WANTED 32
-#define USER 64
+#define KEEPER 64 /* times the flag by which its thread keeps it; two bits */
+#define KEEPER_BITS 192
+#define USER 256
 #ifdef F_LOOK_NO_SHARED
 #define LOOK (HELD|GONE|IDLE|WANTED)
 #else
@@ -89,12 +93,15 @@ byte oid[NL*NP]; byte otok[NL*NP]; bit oown[NL*NP]; /* the table and open[], wri
 bit eend[NP]; byte etok[NP]; bit eown[NP]; /* ended[]: a path that the consumer has ended, and its thread hasn't */
 byte oleft[NL*NP]; bit left[NL]; /* set from outside the lane */
 byte handed[NL]; bit of_locked = IS_LOCKED;
-/* A thread's stores that haven't left: place*4 + value*2 + release; place 1+l: inside, 1+NL+l: the lane's memory. */
+#ifdef KEEPS
+bit flag_taken[NL*KEEPERS]; bit in_use[NL*KEEPERS]; /* uses[]: a flag is a thread's; that thread uses the lane */
+#endif
+/* A thread's stores that haven't left: place*4 + value*2 + release; place 1+l: inside, 1+NL+l: the lane's memory, after them uses[]. */
 byte sb[NT*B]; byte bn[NT];
 
 /* A path, which one thread has at a time, and a seat. Where no handler runs and no path is handed on they are a thread's own memory, which spares orders. */
 #define PATHS byte plane[NP] = NOBODY; byte ptok[NP]; bit pown[NP]; bit pover[NP]; byte pplace[NP]
-#define SEATS byte own[NT] = NOBODY; byte last[NT]; byte openc[NT]; bit busy[NT]; bit no_token[NT]; byte hands_on[NT]; bit plain[NT] = 1 /* plain: it is the tracer's run */
+#define SEATS byte own[NT] = NOBODY; byte last[NT]; byte openc[NT]; bit busy[NT]; bit no_token[NT]; byte hands_on[NT]; byte keeper[NT]; bit plain[NT] = 1 /* keeper: the flag by which it keeps the lane that it had last, or 0; plain: it is the tracer's run */
 #if HANDLERS > 0
 SEATS;
 #define OWN_SEATS
@@ -128,7 +135,13 @@ byte gi; byte gj; bit gf;
 
 #define ENTRY(l,v,r) ((l)*4+(v)*2+(r))
 inline apply(e) {
-    if :: ((e)/4) <= NL -> ins[((e)/4)-1] = ((e)/2)%2 :: else -> dat[((e)/4)-1-NL] = ((e)/2)%2 fi
+    if
+    :: ((e)/4) <= NL -> ins[((e)/4)-1] = ((e)/2)%2
+    :: ((e)/4) > NL && ((e)/4) <= 2*NL -> dat[((e)/4)-1-NL] = ((e)/2)%2
+#ifdef KEEPS
+    :: ((e)/4) > 2*NL -> in_use[((e)/4)-1-2*NL] = ((e)/2)%2
+#endif
+    fi
 }
 inline flush(t) {
     d_step { gi = 0; do :: gi < bn[t] -> apply(sb[(t)*B+gi]); sb[(t)*B+gi] = 0; gi++ :: else -> break od; bn[t] = 0; gi = 0 }
@@ -386,7 +399,134 @@ inline seat_owns(t, l) { own[t] = l; plain[t] = (l == NOBODY) }
 
 /* ---- lane.c: which lane. ---- */
 
+#define CLAIMED (of_locked -> s : (s & ~SHARED))
+
+#ifdef KEEPS
+#define RESTS(t) (keeper[t]*KEEPER + 2*USER)
+#define FLAG_OF(l, k) ((l)*KEEPERS+(k)-1)
+#define PUSH_USE(t, l, v, r) PUSH(t, 1+2*NL+FLAG_OF(l, keeper[t]), v, r)
+
+inline flag_free(t, l) { atomic { DRAIN(t); in_use[FLAG_OF(l, keeper[t])] = 0; flag_taken[FLAG_OF(l, keeper[t])] = 0 } }
+/* Whether it is kept is left open, where it could be. */
+inline lane_keeps(t, l) {
+#ifdef KEEPS_ONCE
+    skip
+#else
+    if
+    :: atomic { DRAIN(t); gj = 0;
+           do
+           :: gj < KEEPERS && keeper[t] == 0 -> if :: !flag_taken[(l)*KEEPERS+gj] -> flag_taken[(l)*KEEPERS+gj] = 1; keeper[t] = gj+1 :: else fi; gj++
+           :: else -> break
+           od; gj = 0 };
+       if
+       :: keeper[t] != 0 ->
+            atomic { DRAIN(t); assert(handed[l] == 0); if :: st[l] == 2*USER -> st[l] = RESTS(t); cas = 1 :: else fi };
+            if :: cas -> skip :: else -> flag_free(t, l); keeper[t] = 0 fi
+       :: else
+       fi
+    :: skip
+    fi
+#endif
+}
+/* `cas` says whether. but: bits that it doesn't look at. */
+#define ANYONE (HELD|GONE|SERVE|IDLE|WANTED)
+inline lane_is_kept(t, l, but) {
+#ifdef F_KEPT_LOOK_FIRST
+    s = st[l];
+    atomic { HAS_ROOM(t) -> PUSH_USE(t, l, 1, 0) };
+#else
+    atomic { HAS_ROOM(t) -> PUSH_USE(t, l, 1, 0) };
+    s = st[l];
+#endif
+#ifdef F_KEPT_UNSEEN
+    cas = 1;
+#else
+    if :: (s & ~(but)) == RESTS(t) -> cas = 1 :: else -> atomic { HAS_ROOM(t) -> PUSH_USE(t, l, 0, 1) } fi;
+#endif
+    s = 0
+}
+/* The thread keeps the lane no longer that it had last: `kept` says whether it did until now. */
+inline lane_unkeep(t, gone) {
+    do
+    :: s = st[last[t]];
+       if
+       :: (s & KEEPER_BITS) == keeper[t]*KEEPER ->
+            atomic { DRAIN(t); if :: st[last[t]] == s -> st[last[t]] = s - keeper[t]*KEEPER - (gone)*USER; kept = 1 :: else fi };
+            if :: kept -> flag_free(t, last[t]); break :: else fi
+#ifdef F_UNKEEPS_AT_ONCE
+       :: (s & KEEPER_BITS) != keeper[t]*KEEPER -> flag_free(t, last[t]); break
+#else
+       :: (s & KEEPER_BITS) != keeper[t]*KEEPER && (s & (HELD|GONE)) != HELD -> flag_free(t, last[t]); break
+       :: (s & KEEPER_BITS) != keeper[t]*KEEPER && (s & (HELD|GONE)) == HELD ->
+            /* wait_on; a flag that nobody has answered for stays taken */
+            if :: (st[last[t]] & (HELD|GONE)) != HELD || (st[last[t]] & KEEPER_BITS) == keeper[t]*KEEPER :: IS_SPENT(t) -> SPEND; break fi
+#endif
+       fi
+    od;
+    A_ keeper[t] = 0; s = 0; spent = 0 _A
+}
+/* A lane that its thread keeps and doesn't use becomes another's own: `on` says so. */
+inline takes_over(t, l) {
+    s = st[l];
+    if
+    :: (s & KEEPER_BITS) != 0 && s/USER == 2 && !(s & (HELD|GONE|WANTED)) && !in_use[FLAG_OF(l, (s & KEEPER_BITS)/KEEPER)] ->
+        k = (s & KEEPER_BITS)/KEEPER;
+#ifdef F_OVER_ORDER_FIRST
+        order();
+#endif
+        atomic { DRAIN(t); if :: st[l] == s -> st[l] = (CLAIMED & ~KEEPER_BITS) | HELD; cas = 1 :: else fi };
+        if
+        :: cas ->
+#if !defined(F_OVER_NO_ORDER) && !defined(F_OVER_ORDER_FIRST)
+            order();
+#endif
+            MAY_CRASH(t)
+            if
+#ifdef F_OVER_UNASKED
+            :: true
+#else
+            :: !in_use[FLAG_OF(l, k)]
+#endif
+                -> assert(keeper[t] == 0); A_ handed[l] = 0; last[t] = l; seat_owns(t, l); on = l _A; atomic { DRAIN(t); st[l] = st[l] & ~HELD }
+            :: in_use[FLAG_OF(l, k)] ->
+#ifdef F_OVER_NOT_BACK
+                atomic { DRAIN(t); st[l] = st[l] - HELD }
+#else
+                atomic { DRAIN(t); st[l] = st[l] + k*KEEPER - HELD }
+#endif
+            fi
+        :: else
+        fi;
+        A_ k = 0; cas = 0 _A
+    :: else
+    fi;
+    s = 0
+}
+#endif
+
+/* With the last path that its thread began there a lane is nobody's own, or kept. */
+inline lane_rests(t, l, isown) {
+#ifdef KEEPS
+    cas = 0;
+#ifdef F_RESTS_EARLY
+    if :: isown && keeper[t] != 0 -> atomic { HAS_ROOM(t) -> PUSH_USE(t, l, 0, 1) } :: else fi;
+#endif
+    if
+    :: isown && openc[t] == 1 && keeper[t] != 0 ->
+        atomic { HAS_ROOM(t) -> PUSH_USE(t, l, 0, 1); cas = 1 }
+    :: isown && openc[t] == 1 && keeper[t] == 0 -> lane_keeps(t, l)
+    :: else
+    fi;
+    if :: cas -> A_ openc[t] = 0; seat_owns(t, NOBODY) _A :: else fi
+#else
+    skip
+#endif
+}
 inline lane_path_off(t, l, isown) {
+    lane_rests(t, l, isown);
+    if :: cas -> cas = 0 :: else -> lane_count_off(t, l, isown) fi
+}
+inline lane_count_off(t, l, isown) {
     atomic { DRAIN(t); users = 1;
         if
         :: isown -> assert(openc[t] > 0); openc[t]--;
@@ -406,7 +546,7 @@ inline lane_path_off(t, l, isown) {
         st[l] = st[l] - users*USER; assert(st[l] >= 0); users = 0 }
 }
 
-#define CLAIMED (of_locked -> s : (s & ~SHARED))
+
 /* `on` says which. */
 inline claim(t) {
     do
@@ -425,12 +565,26 @@ inline claim(t) {
         if :: on != NOBODY -> break :: else -> i++ fi
     :: else -> break
     od;
-    A_ i = 0; s = 0 _A
+    A_ i = 0; s = 0 _A;
+#ifdef KEEPS
+    do
+    :: i < NL && on == NOBODY -> takes_over(t, (last[t]+i)%NL); i++
+    :: else -> break
+    od;
+    i = 0
+#endif
 }
 inline take_back(t) {
     atomic { assert(openc[t] >= handed[own[t]]); openc[t] = openc[t] - handed[own[t]]; handed[own[t]] = 0 };
     if
-    :: openc[t] == 0 -> on = own[t]; A_ seat_owns(t, NOBODY) _A; atomic { DRAIN(t); st[on] = st[on] - USER; assert(st[on] >= 0) }; hands_on[t] = 1; on = NOBODY
+    :: openc[t] == 0 ->
+        on = own[t]; A_ seat_owns(t, NOBODY) _A;
+#ifdef KEEPS
+        if :: keeper[t] != 0 -> lane_unkeep(t, 1); kept = 0 :: else -> atomic { DRAIN(t); st[on] = st[on] - USER; assert(st[on] >= 0) } fi;
+#else
+        atomic { DRAIN(t); st[on] = st[on] - USER; assert(st[on] >= 0) };
+#endif
+        hands_on[t] = 1; on = NOBODY
     :: else
     fi
 }
@@ -450,6 +604,17 @@ inline lane_for_path(t) {
     on = NOBODY; i = 0;
 #ifndef F_NOT_TAKEN_BACK
     if :: own[t] != NOBODY && handed[own[t] % NL] != 0 -> take_back(t) :: else fi;
+#endif
+#ifdef KEEPS
+    if
+    :: own[t] == NOBODY && keeper[t] != 0 ->
+        /* is_kept_still */
+        assert(hands_on[t] == 0);
+        lane_is_kept(t, last[t], ANYONE);
+        if :: cas -> cas = 0; kept = 1 :: else -> lane_unkeep(t, 0) fi;
+        if :: kept -> A_ on = last[t]; seat_owns(t, on); kept = 0 _A :: else fi
+    :: else
+    fi;
 #endif
     if
     :: own[t] == NOBODY && hands_on[t] != 0 -> hands_on[t]--
@@ -508,15 +673,24 @@ inline begin(t, p) {
     A_ if :: noted -> skip :: else -> pover[p] = 1 fi; noted = 0; tries = 0 _A
 }
 
+/* `cas` says whether. */
+inline lane_claim_last(t, l) {
+    atomic { DRAIN(t); if :: st[l] == 0 -> st[l] = 2*USER; cas = 1 :: else -> cas = 0 fi };
+    if :: cas -> handed[l] = 0 :: else fi
+}
 /* `done` says whether. */
 inline begin_on_last(t, p) {
     if
     :: plane[p] == NOBODY && plain[t] && hands_on[t] == 0 ->
         on = last[t];
-        atomic { DRAIN(t); if :: st[on] == 0 -> st[on] = 2*USER; cas = 1 :: else -> cas = 0 fi };
+#ifdef KEEPS
+        if :: keeper[t] != 0 -> lane_is_kept(t, on, 0) :: else -> lane_claim_last(t, on) fi;
+#else
+        lane_claim_last(t, on);
+#endif
         if
         :: cas ->
-            A_ cas = 0; handed[on] = 0; seat_owns(t, on); openc[t] = 1; isown = 1; noted = 0; in = NOT_IN _A;
+            A_ cas = 0; seat_owns(t, on); openc[t] = 1; isown = 1; noted = 0; in = NOT_IN _A;
             dspec_tracer_enter_(t, on);
             if
             :: in -> atomic { open_on(t, on, p) }; dspec_tracer_leave_(t, on); done = noted
@@ -599,11 +773,11 @@ inline throw_one(l, at) {
 /* Which one is left says its number: what has its place later isn't it. */
 /* What the consumer has ended is in its list no longer. */
 inline take_ended(l, p) { eend[p] = 0; if :: eown[p] -> handed[l]++ :: else fi }
-inline leave_behind(l, p) {
+inline leave_after(l, p) {
     if
     :: st[l] & GONE
     :: else ->
-#ifndef F_NOT_LEFT_BEHIND
+#ifndef F_NOT_LEFT_AFTER
         atomic { oleft[(l)*NP+pplace[p]] = p+1; gleft[p] = 1 }; left[l] = 1
 #else
         gleft[p] = 1
@@ -659,7 +833,7 @@ inline end(t, p) {
             lane_leave(t, on);
             if :: x -> lane_path_off(t, on, isown) :: else fi
         fi
-    :: else -> leave_behind(on, p)
+    :: else -> leave_after(on, p)
     fi;
     A_ x = 0; in = 0; isown = 0; on = NOBODY _A
 }
@@ -713,14 +887,21 @@ inline ends(t, p) {
 inline dspec_tracer_try_(t) {
     if
     :: plain[t] ->
-        A_ on = last[t]; plain[t] = 0 _A;
+        A_ plain[t] = 0; on = last[t] _A;
+#ifdef KEEPS
+        atomic { DRAIN(t); s = (keeper[t] != 0 -> RESTS(t) : 0); if :: st[on] == s -> st[on] = s + HELD; in = BY_LOCK; into(t, on) :: else -> in = NOT_IN fi; s = 0 };
+#else
         atomic { DRAIN(t); if :: st[on] == 0 -> st[on] = HELD; in = BY_LOCK; into(t, on) :: else -> in = NOT_IN fi };
+#endif
         if :: in -> lane_leave_locked(t, on); done = 1 :: else fi;
         A_ plain[t] = 1; in = NOT_IN; on = NOBODY _A
     :: else
     fi
 }
 inline lane_for_record(t) {
+#ifdef KEEPS
+    if :: own[t] == NOBODY && keeper[t] != 0 -> lane_unkeep(t, 2); kept = 0 :: else fi;
+#endif
     on = own[t];
     if
     :: on == NOBODY -> on = last[t];
@@ -767,6 +948,7 @@ inline throw_away(t, l) {
         :: else -> break
         od; gj = 0 }
 }
+inline lane_count_owner_off(t) { atomic { DRAIN(t); if :: own[t] != NOBODY -> st[own[t]] = st[own[t]] - USER; assert(st[own[t]] >= 0) :: else fi } }
 inline path_ends_with_thread(t) {
     do
     :: i < NL ->
@@ -784,7 +966,19 @@ inline path_ends_with_thread(t) {
     :: else -> break
     od;
     i = 0;
-    atomic { DRAIN(t); if :: own[t] != NOBODY -> st[own[t]] = st[own[t]] - USER; assert(st[own[t]] >= 0) :: else fi }
+#ifdef KEEPS
+    if
+    :: keeper[t] != 0 && own[t] != NOBODY -> lane_unkeep(t, 1); kept = 0
+#ifdef F_ENDS_KEEPING
+    :: keeper[t] != 0 && own[t] == NOBODY -> keeper[t] = 0
+#else
+    :: keeper[t] != 0 && own[t] == NOBODY -> lane_unkeep(t, 2); kept = 0
+#endif
+    :: else -> lane_count_owner_off(t)
+    fi
+#else
+    lane_count_owner_off(t)
+#endif
 }
 inline detach(t) {
 #ifdef F_DETACH_ASKS
@@ -798,8 +992,22 @@ inline detach(t) {
     atomic { seat_owns(t, NOBODY); plain[t] = 0; no_token[t] = 1; busy[t] = 1; x = 0 }
 }
 
+#ifdef WANTS
+/* Of what a path does beside that the other settings have all. */
+inline wants_lane(t) {
+    claim(t);
+    if
+    :: on != NOBODY ->
+        in = NOT_IN; dspec_tracer_enter_(t, on);
+        if :: in -> dspec_tracer_leave_(t, on) :: else fi;
+        atomic { DRAIN(t); st[on] = st[on] - 2*USER; seat_owns(t, NOBODY); on = NOBODY; in = NOT_IN }
+    :: else
+    fi
+}
+#endif
+
 #define LOCALS byte on = NOBODY; byte i = 0; byte bi = 0; byte users = 0; short s = 0; byte in = NOT_IN; byte how = NOT_IN; bit out = 0; bit ok = 0; bit cas = 0; bit alone = 0; bit x = 0; bit x2 = 0; bit was_idle = 0; bit d = 0; \
-    byte pre = 2; bit done = 0; bit noted = 0; bit isown = 0; bit has = 0; bit spent = 0; byte tries = 0; byte was_own = NOBODY OWN_SEATS OWN_PATHS
+    byte pre = 2; bit done = 0; bit noted = 0; bit isown = 0; bit has = 0; bit spent = 0; bit kept = 0; byte k = 0; byte tries = 0; byte was_own = NOBODY OWN_SEATS OWN_PATHS
 
 #if HANDLERS > 0
 #define UNLESS_HANDLER provided (!hrun[_pid])
@@ -808,11 +1016,18 @@ inline detach(t) {
 #endif
 
 /* What a thread does: digits to the base of 8, the first one last. 1 a record of its path, 2 its end, 3 a record in no path, 4 its path is handed on and it goes on with path 2, 5 it gets the path of the
- * other thread, where that handed it on, 6 it waits until the other thread's path is begun. Its end comes last. */
+ * other thread, where that handed it on, 6 it waits until the other thread's path is begun, 7 it goes on with a new path. Its end comes last. */
 active [NT] proctype T() UNLESS_HANDLER {
     byte p = 0; short code = 0;
     LOCALS;
-    atomic { code = (_pid == 0 -> S0 : (_pid == 1 -> S1 : S2)); p = _pid; last[_pid] = (_pid+1)%NL };
+    atomic { code = (_pid == 0 -> S0 : (_pid == 1 -> S1 : S2)); p = _pid; last[_pid] = (_pid+1)%NL;
+#ifdef STARTS_KEPT
+        if :: _pid == 0 && st[last[0]] == START -> keeper[0] = 1; flag_taken[FLAG_OF(last[0], 1)] = 1; handed[last[0]] = 0; st[last[0]] = START + RESTS(0) :: else fi
+#endif
+    };
+#ifdef WANTS
+    if :: _pid == 1 -> wants_lane(_pid); fin[_pid] = 1; goto dead :: else fi;
+#endif
     do
     :: code%8 == 1 -> dspec_path_record(_pid, p); code = code/8
 #ifdef USES_END
@@ -824,6 +1039,9 @@ active [NT] proctype T() UNLESS_HANDLER {
 #ifdef HANDS
     :: code%8 == 4 -> atomic { DRAIN(_pid); moved[p] = 1; p = 2; code = code/8 }
     :: atomic { code%8 == 5 && (moved[1-_pid] || fin[1-_pid] || crashed[1-_pid]) -> p = (moved[1-_pid] -> 1-_pid : p); code = code/8 }
+#endif
+#ifdef USES_NEXT
+    :: atomic { code%8 == 7 -> p = p+NT; code = code/8 }
 #endif
 #ifdef USES_WAIT
     :: atomic { code%8 == 6 && begun[1-_pid] -> code = code/8 }
@@ -1043,7 +1261,15 @@ inline end_all() {
 inline assert_users(l) {
     gj = 0; c = 0;
     do :: gj < NP -> if :: oid[(l)*NP+gj] != 0 -> c++ :: else fi; if :: eend[gj] && glane[gj] == (l) -> c++ :: else fi; gj++ :: else -> break od;
-    gj = 0; assert(st[l]/USER == c); c = 0
+    gj = 0;
+#ifdef KEEPS
+    /* A thread whose wait for another was over may have left it kept, for others to take. */
+    if
+    :: (st[l] & KEEPER_BITS) != 0 -> assert(GIVEUP || HANDLERS > 0); assert(!in_use[FLAG_OF(l, (st[l] & KEEPER_BITS)/KEEPER)]); c = c+2
+    :: else
+    fi;
+#endif
+    assert(st[l]/USER == c); c = 0
 }
 /* Nobody is on the lanes, the consumer gets each at once, and what was left behind is thrown away. */
 inline assert_quiet() {

@@ -66,7 +66,7 @@ runs() {
 }
 
 # Runs a command that reads, writes, grows memory or makes threads with that refused: the first, the second, .. (growth, read, write), or one
-# and all behind it (growths, threads). Keeps what `runs` keeps; false where there was none to refuse: refused KIND NUMBER COMMAND ..
+# and all after it (growths, threads). Keeps what `runs` keeps; false where there was none to refuse: refused KIND NUMBER COMMAND ..
 refused() {
     kind=$1
     number=$2

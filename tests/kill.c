@@ -1,6 +1,6 @@
 /* Kills a program that writes a trace, and looks at what it left. `kill SEED BYTES FILE WORD ..` runs the program, waits until FILE has some number of bytes, below
    BYTES and by the seed, and kills it then, so that it dies in a write often: status 0, or 1 where it had ended before. `kill look FILE ..` sees that each file is whole packets of 1,024 bytes: the format's
-   magic number, where the events go to, the size, and zeros behind the events; it prints how many packets there are, or which of them is none, with status 1. */
+   magic number, where the events go to, the size, and zeros after the events; it prints how many packets there are, or which of them is none, with status 1. */
 #define _GNU_SOURCE
 #include <signal.h>
 #include <stdbool.h>

@@ -22,6 +22,8 @@ DSPEC_PROBE(tick, uint32_t, number);
 static const char *const texts[] = {
     "/orders/new", "</script><script>hacked()</script>", "<img src=http://leak.invalid/x>", "\"quoted\" & 'quoted' \\ \\u003c", "tab\t line\n bell\a escape\x1b[31m delete\x7f",
     "bad \xff\xfe\xc3 utf", "separators \xe2\x80\xa8 and \xe2\x80\xa9", "<!-- --> ]]> <script", "\xf0\x9f\x9a\x80 \xc3\xa9t\xc3\xa9", "", "javascript:hacked()", "{\"a\":[1,2]}",
+    "<svg onload=hacked()>", "'\"><a href=javascript:hacked()>", "<iframe srcdoc='<script>hacked()'>", "<style>*{display:none}</style>", "<base href=//leak.invalid>", "<meta http-equiv=refresh content=0>",
+    "&lt;img src=x onerror=hacked()&gt; &#60;", "\\u003cscript\\u003ehacked()", "${hacked()} {{hacked()}}", "__proto__", "<a onfocus=hacked() autofocus tabindex=1>", "\xc0\xbcscript\xc0\xbe",
 };
 static const char *const why_texts[] = { "own <why>", "own&why" };
 static const size_t why_count = 2;
@@ -62,7 +64,7 @@ static void step(uint64_t *state, dspec_path *path, unsigned depth) {
 
 static void decide(uint64_t *state, dspec_path *path) {
     static const uint32_t reasons[] = { DSPEC_WHY_FAILED, DSPEC_WHY_SLOW, DSPEC_WHY_ASKED, DSPEC_WHY_OWN, DSPEC_WHY_OWN + 1 };
-    if (dice(state, 3) == 0) dspec_path_key(path, UINT64_C(0x4bf92f3577b34da6), (uint64_t)dice(state, 1000) + 1);
+    if (dice(state, 3) == 0) dspec_path_key(path, UINT64_C(0x4bf92f3577b34da6), (uint64_t)dice(state, 100) + 1);
     if (dice(state, 4) == 0) dspec_path_drop(path);
     else if (dice(state, 3) == 0) dspec_path_keep(path);
     else dspec_path_keep_why(path, reasons[dice(state, sizeof reasons / sizeof *reasons)]);

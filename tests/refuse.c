@@ -96,7 +96,7 @@ int sched_yield(void) {
     return __sched_yield();
 }
 
-/* The library's own, which stands behind this one. */
+/* The library's own, which comes after this one. */
 int pthread_create(unsigned long *thread, const void *attributes, void *(*begin)(void *), void *argument) {
     create own = (create)dlsym((void *)-1, "pthread_create");
     if (refuses("threads", __atomic_add_fetch(&threads, 1, __ATOMIC_SEQ_CST))) {

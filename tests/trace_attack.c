@@ -1,8 +1,8 @@
 /* Attacks a folder of a trace while a program writes it. Loaded in front of the program's C library (LD_PRELOAD) it waits for a write to a
    file, by number ATTACK_AT, the first one 1, and does what ATTACK says. `links` and `pipes` put links to ATTACK_VICTIM, or pipes, into the
-   folder ATTACK_FOLDER behind that write, under the names of the files that a trace has. `replace` moves the folder away, with `.moved`
-   behind its name, and puts an empty one in its place. `full` lets that write take half of its bytes, and fails all later ones; `stuck`
-   fails to cut a file too; `gap` takes half of it and fails the two behind it. `room` removes ATTACK_VICTIM behind that write, whether it was
+   folder ATTACK_FOLDER after that write, under the names of the files that a trace has. `replace` moves the folder away, with `.moved`
+   after its name, and puts an empty one in its place. `full` lets that write take half of its bytes, and fails all later ones; `stuck`
+   fails to cut a file too; `gap` takes half of it and fails the two after it. `room` removes ATTACK_VICTIM after that write, whether it was
    taken or not. ATTACK_TOLD names a file that is made then. `grows` waits for no write: each file that is opened to be changed gets one
    byte more before it is.
 
@@ -98,7 +98,7 @@ ssize_t write(int file, const void *bytes, size_t count) {
     return syscall(SYS_write, file, bytes, full || attacks("gap") ? count / 2 : count);
 }
 
-/* Puts a byte behind a file. */
+/* Puts a byte after a file. */
 static void grow(const char *path) {
     int file = (int)syscall(SYS_openat, AT_FDCWD, path, O_WRONLY | O_APPEND);
     syscall(SYS_write, file, "", 1);

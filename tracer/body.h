@@ -4,6 +4,11 @@
  * belongs to one thread, which takes no lock: it sets `inside`, looks at the state, and makes its call. Whoever else wants the lane sets HELD, has every processor come to an order by
  * membarrier(2), and waits until `inside` is 0; so the order is paid where it is rarely needed. SHARED says that all take the lock, that thread too. Of a lane that is nobody's own or
  * SHARED the lock is enough.
+ *
+ * A thread that had a lane alone for many paths keeps it between them. Such a lane counts its owner and one path, which is none while the lane is at rest: so the thread's next path begins, and its last
+ * one ends, without a locked instruction. The thread has a flag in `uses` for that, and the lane's state has the flag's number. The flag says whether the thread uses the lane: it sets the flag, and
+ * looks whether the state is still what it left. Another thread that finds no lane that is free takes one that is kept: it sets HELD and takes the number out, has every processor come to an order, and
+ * looks at the flag. Where that is in use, the number comes back. A thread whose lane was taken finds another state, and has its flag until then.
  */
 #ifndef DSPEC_TRACER_BODY_H
 #define DSPEC_TRACER_BODY_H
@@ -29,9 +34,14 @@
 typedef struct dspec_tracer_body body;
 
 
-/* Of a lane's state: six bits, and above them how many paths are on it, and 1 more where it is a thread's own. WANTED has threads that share a lane hold back, so that the consumer gets
- * its turn. */
-enum { HELD = DSPEC_TRACER_HELD_, GONE = 2, SERVE = 4, IDLE = 8, SHARED = 16, WANTED = 32, USER = 64 };
+/* Of a lane's state: six bits; the number of the flag by which a thread keeps it; and above them how many paths are on it, and 1 more where it is a thread's own. WANTED has threads that share a lane
+ * hold back, so that the consumer gets its turn. */
+enum { HELD = DSPEC_TRACER_HELD_, GONE = 2, SERVE = 4, IDLE = 8, SHARED = 16, WANTED = 32, FLAG = 64, FLAGS = 7, KEPT = FLAGS * FLAG, USER = 512 };
+/* A lane that is kept and that nobody wants counts its owner and one path. */
+enum { AT_REST = 2 * USER };
+static_assert(KEPT + AT_REST <= UINT16_MAX, "a seat has it");
+/* Of a flag: it is nobody's; its thread doesn't use the lane, or does. */
+typedef enum use { FREE_FLAG = 0, RESTS = 1, IN_USE = 2 } use;
 static_assert((HELD | GONE | IDLE | SHARED | WANTED) == DSPEC_TRACER_LOOK_, "the header's LOOK is these");
 /* Within these bounds somebody waits for lanes, in microseconds: a thread for one, the consumer in a turn of a flush and at the end for all; in a round for none. */
 enum { ENTER_US = 1000000, TAKE_US = 20000, CLOSE_US = 5000000 };
@@ -40,14 +50,16 @@ enum { MAX_CRASHES = 16 };
 #define MOST_BATCH(OPTIONS) ((OPTIONS)->bufsize + 2 * (size_t)BYTES_OF_PATH)
 /* In place of the number of the path to which a thread recorded last, where that path got no slot. */
 #define REFUSED_PATH UINT64_C(1)
-/* A record's text in words of eight bytes, at most. */
-enum { MOST_WORDS = 9 };
+/* A record's text in words of eight bytes, at most, and how many bytes a record has at most. */
+enum { MOST_WORDS = 9, MOST_OF_A_RECORD = 80 };
 /* Of the event that tells of a path, in words and in bytes. */
 enum { WORDS_OF_PATH = 6, BYTES_OF_PATH = 56 };
 /* How a path ends, and what is answered where it ended otherwise: it was kept since its key is, or thrown away since it can't be parked. */
 typedef enum ending { DROPS = 0, KEEPS = 1, PARKS = 2 } ending;
 #define KEPT_BY_KEY ((dspec_status)41)
 #define THROWN_AWAY ((dspec_status)42)
+/* A speculation's number has its slot in its lowest bits. */
+enum { SLOTS = 64 };
 /* Of a path's key: there is none, there is one, and that one is kept, so that the path is kept at its end. */
 enum { NO_KEY = 0, HAS_KEY = 1, IS_WANTED = 2 };
 /* After the tracers stand watches (watch.h), which signals know as tracers without lanes. */
@@ -89,6 +101,8 @@ struct lane {
     uint32_t number;
     uint32_t opened; /* the number of the path that was opened last */
     body *tracer;
+    uint8_t uses[FLAGS + 1]; /* by their numbers, which begin with 1 */
+    uint32_t had_by, in_a_row; /* the token of the thread whose own it was last, and for how many paths in a row; written by that */
     dspec_paths paths;
     parked_paths parked; /* with park_bytes */
     uint64_t kept, thrown, cut, cut_records; /* kept, thrown: until now, which others may look at at any time; the last word is the table's */
@@ -104,7 +118,7 @@ struct lane {
     uint64_t before; /* how many records the folder had before it */
     uint32_t bringing;
     bool waits_for_disk; /* with `survive`: it is taken, and stays here until the disk has room */
-    /* With `survive`: whether a service is made, where the two buffers are and which one is filled, how many batches were switched out, taken and given back, what the CPU
+    /* Where the memory is a file, or as one is: whether a service is made, where the two buffers are and which one is filled, how many batches were switched out, taken and given back, what the CPU
      * had accepted at the last switch and how many records that switched out, and how many were in the buffer before the service. */
     uint32_t serving, filled;
     const uint8_t *buffers[2];
@@ -207,6 +221,7 @@ struct dspec_tracer_body {
     dspec_tracer *front; /* the program's */
     struct keys *keys;   /* both with park_bytes */
     struct keeper *keeper;
+    taken_paths taken;
     uint64_t claims[DSPEC_MAX_ENABLINGS];
     uint32_t missing_state; /* of the name: 0 none is noted, 1 it is being written, 2 it is there */
     char missing_name[64];  /* the first event that records and isn't the tracer's */
@@ -217,7 +232,7 @@ struct dspec_tracer_body {
     seen_thread seen[MAX_SEEN];
     struct crash crashes[MAX_CRASHES];
     void (*here)(uint64_t *); /* a watch's */
-    struct saved_head *saved; /* where the tracer's memory is a file (survive.h) */
+    struct saved_head *saved; /* where the tracer's memory is a file, or as a file is (survive.h) */
     void *memory;
     memory_file file;
     APART uint32_t stop, rings, asleep, deferring, deferred, ended; /* asleep: the consumer makes no rounds until it is stirred; deferred: the signal that is left to it; 0: none yet */
@@ -281,6 +296,8 @@ way lane_enter_slowly(dspec_tracer_seat *seat, struct lane *lane);
 struct lane *lane_for_path(body *tracer, dspec_tracer_seat *seat); /* one more path is on it; NULL where none has room */
 struct lane *lane_shared(body *tracer, uint32_t number); /* likewise, on this one */
 struct lane *lane_for_record(body *tracer, dspec_tracer_seat *seat);
+bool lane_keeps(dspec_tracer_seat *seat, struct lane *lane); /* whether the thread keeps the lane from now on, which was its own for one path */
+void lanes_give_up(dspec_tracer_seat *seat); /* the thread's own lane, and the one that it keeps */
 /* The consumer's: whether it has the lane, between two calls. With GONE in bits no thread gets in any more. */
 bool lane_take(struct lane *lane, uint32_t bits, patience *left);
 void lane_release(struct lane *lane, uint32_t set);
@@ -310,6 +327,10 @@ void lane_serve(struct lane *lane, bool *is_empty);
 void lane_write(body *tracer, struct lane *lane);
 void lane_empty(body *tracer, struct lane *lane); /* both buffers; the caller has the lane */
 void lane_clean(struct lane *lane);
+/* Whether what is kept waits where the disk is full, as with `survive`. With a bound the oldest folder goes for it. */
+bool kept_waits_for_disk(const body *tracer);
+/* Beside those that the bytes of a batch fill it has so many packets at most: the last ones of its files, and what was missed. */
+enum { LAST_PACKETS = 3 };
 bool lanes_wait_for_disk(const body *tracer);
 bool lane_end(body *tracer, struct lane *lane);
 void lane_add(dspec_tracer_report *sum, const dspec_report *report);
@@ -407,6 +428,11 @@ static inline bool state_becomes(struct lane *lane, uint32_t *was, uint32_t is) 
 #define RARELY __attribute__((noinline, cold))
 #define INTO_CALLER __attribute__((always_inline)) static inline
 
+/* Puts a number of `width` bytes, as dspec_number_at finds it. */
+static inline void number_put(uint8_t *at, uint64_t number, size_t width) {
+    for (size_t i = 0; i < width; i++) at[i] = (uint8_t)(number >> 8 * i);
+}
+
 static inline uint64_t stamp_of(const body *tracer) { return dspec_tracer_stamp_(&tracer->clock); }
 
 /* ---- A path of a lane, which the caller has. ---- */
@@ -485,21 +511,54 @@ static inline void seat_owns(dspec_tracer_seat *seat, dspec_tracer_lane *own) {
     STORE(&seat->plain, own != NULL ? DSPEC_TRACER_NONE_ : seat->run);
 }
 
-/* A path is over: with the last one that its thread began there, a lane is nobody's own. own: whether the path is such a one. */
+/* The flag of the thread that keeps a lane, by the lane's state at rest. */
+static inline uint8_t *flag_of(struct lane *lane, size_t kept) { return &lane->uses[kept / FLAG - AT_REST / FLAG]; }
+
+/* The lane that the thread keeps is at rest. Others see what it did there, once they see the flag. */
+static inline void lane_rests(dspec_tracer_seat *seat, struct lane *lane) { __atomic_store_n(flag_of(lane, seat->kept), RESTS, __ATOMIC_RELEASE); }
+
+/* After the last path that its thread began there: whether the thread keeps the lane for its next one. */
+static inline bool lane_is_left(dspec_tracer_seat *seat, struct lane *lane) {
+    if (!LIKELY(seat->kept != 0) && (lane->tracer->by_thread || !lane_keeps(seat, lane))) return false;
+    seat_owns(seat, NULL);
+    lane_rests(seat, lane);
+    return true;
+}
+
+/* A path is over. own: whether its thread began it on its own lane. */
 static inline void lane_path_off(dspec_tracer_seat *seat, struct lane *lane, bool own) {
     uint32_t users = 1;
-    if (own && --seat->open == 0 && !lane->tracer->by_thread) {
-        seat_owns(seat, NULL);
-        users = 2;
+    if (own && --seat->open == 0) {
+        if (LIKELY(lane_is_left(seat, lane))) return;
+        if (!lane->tracer->by_thread) {
+            seat_owns(seat, NULL);
+            users = 2;
+        }
     }
     __atomic_fetch_sub(&lane->front.state, users * USER, __ATOMIC_SEQ_CST);
 }
 
-/* Makes the lane that a thread had last its own, for a path, where nobody is on it and none of its bits is set: whether it is. */
-static inline bool lane_claim_last(dspec_tracer_seat *seat, struct lane *lane) {
+/* Uses the lane again that the thread keeps, for a path: whether nobody has taken it, is on it or wants it. but: bits of its state that are no matter. */
+static inline bool lane_is_kept(const dspec_tracer_seat *seat, struct lane *lane, uint32_t but) {
+    const uint32_t kept = seat->kept;
+    STORE(flag_of(lane, kept), IN_USE);
+    __atomic_signal_fence(__ATOMIC_SEQ_CST);
+    if (LIKELY((__atomic_load_n(&lane->front.state, __ATOMIC_ACQUIRE) & ~but) == kept)) return true;
+    __atomic_store_n(flag_of(lane, kept), RESTS, __ATOMIC_RELEASE);
+    return false;
+}
+
+/* Claims a lane for a path, where nobody is on it and none of its bits is set, and the thread doesn't hand its paths on: whether it has it. */
+static inline bool lane_claim(struct lane *lane) {
     uint32_t state = 0;
-    if (!LIKELY(state_becomes(lane, &state, 2 * USER))) return false;
+    if (!LIKELY(dspec_here.hands_on == 0) || !LIKELY(state_becomes(lane, &state, 2 * USER))) return false;
     STORE(&lane->handed, 0);
+    return true;
+}
+
+/* Makes the lane that a thread had last its own, for a path, where it keeps that or can claim it: whether it is. */
+static inline bool lane_claim_last(dspec_tracer_seat *seat, struct lane *lane) {
+    if (!LIKELY(seat->kept != 0 ? lane_is_kept(seat, lane, 0) : lane_claim(lane))) return false;
     seat->own = &lane->front;
     STORE(&seat->plain, DSPEC_TRACER_NONE_);
     return true;

@@ -228,18 +228,22 @@ static void enter_own(struct lane *own) {
     __atomic_signal_fence(__ATOMIC_SEQ_CST);
 }
 
+static void leave_own(struct lane *own, dspec_status status) {
+    __atomic_signal_fence(__ATOMIC_SEQ_CST);
+    STORE(&own->front.answered, own->front.answered + (status == DSPEC_OK));
+    dspec_tracer_leave_(&own->front);
+}
+
 static void put_own(body *tracer, uint64_t claim, uint64_t at, const uint64_t *words, size_t n) {
     struct lane *own = &tracer->lanes[tracer->count];
     enter_own(own);
-    dspec_put(&own->front.cpu, claim, at, words, n);
-    dspec_tracer_leave_(&own->front);
+    leave_own(own, dspec_put(&own->front.cpu, claim, at, words, n));
 }
 
 static void trace_own(body *tracer, uint32_t epid, uint64_t at, const uint64_t *values, size_t n) {
     struct lane *own = &tracer->lanes[tracer->count];
     enter_own(own);
-    dspec_trace(&own->front.cpu, epid, at, values, n);
-    dspec_tracer_leave_(&own->front);
+    leave_own(own, dspec_trace(&own->front.cpu, epid, at, values, n));
 }
 
 /* What the tracer's own lane tells of: threads that came, paths and records that were refused, and how many paths were decided. */
@@ -262,14 +266,14 @@ static void add_parked(const body *tracer, dspec_tracer_report *sum) {
     tell_keys(tracer, sum);
 }
 
-/* What became of parked paths is news of the others too. */
+/* What became of parked paths is news of the others too. How long those were parked that were evicted may be known a turn after that they were. */
 static bool has_parked_news(const body *tracer, news *is) {
     const dspec_tracer_report *told = &tracer->told_parked;
     add_parked(tracer, &is->parked);
     is->kept += is->parked.park_kept;
     is->thrown += is->parked.park_evicted + is->parked.park_expired;
     return is->parked.parked != told->parked || is->parked.park_kept != told->park_kept || is->parked.park_evicted != told->park_evicted || is->parked.park_expired != told->park_expired ||
-           is->parked.key_missed != told->key_missed || is->parked.keys_refused != told->keys_refused;
+           is->parked.key_missed != told->key_missed || is->parked.keys_refused != told->keys_refused || (told->park_evicted > 0 && is->parked.park_least_ms != told->park_least_ms);
 }
 
 static news news_of(const body *tracer) {

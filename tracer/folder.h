@@ -64,6 +64,9 @@ void dspec_folder_name_(char name[32], uint32_t cpu, size_t file);
 /* The descriptor of a CPU's file that is open, where the program has left it to us; else -1, and errno is EBADF. */
 int dspec_folder_file_(dspec_folder *folder, uint32_t cpu, size_t file);
 
+/* Whether the disk has room for this many bytes more, whichever of the CPU's files they go to. Where the system can't tell, it is so, and the write itself will tell. */
+bool dspec_folder_has_room_(dspec_folder *folder, uint32_t cpu, size_t len);
+
 /* Makes room for this many bytes. */
 bool dspec_folder_grows_(uint8_t **room, size_t *had, size_t size);
 

@@ -119,6 +119,15 @@ int dspec_folder_file_(dspec_folder *folder, uint32_t cpu, size_t file) {
     return our_file(folder->files[cpu][file] - 1, &mark);
 }
 
+/* It is kept after the CPU's first file, and given back but for the last packet's, since what comes may go to another file. */
+bool dspec_folder_has_room_(dspec_folder *folder, uint32_t cpu, size_t len) {
+    const int file = dspec_folder_file_(folder, cpu, 0);
+    const uint64_t size = folder->sizes[cpu][0];
+    if (file < 0) return true;
+    if (dspec_folder_keeps_(file, size, len) != 0) return false;
+    return ftruncate(file, (off_t)size) != 0 || dspec_folder_keeps_(file, size, 0) == 0;
+}
+
 /* Opens a CPU's file, where it isn't open: 0 or the errno. */
 static int open_file(dspec_folder *folder, uint32_t cpu, size_t file) {
     dspec_folder_mark mark;

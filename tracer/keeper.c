@@ -21,56 +21,45 @@ typedef struct parked_by {
 typedef struct watched {
     uint64_t looked;  /* places before this number were looked at, for all keys that were remembered then */
     uint64_t due;     /* the time of places before this number is over */
+    uint64_t gone;    /* places before this number were gone at the last turn, and those of them were counted whose key was remembered then */
     uint64_t evicted; /* as it was at the last turn */
     size_t marks;
     parked_by marked[MARKS]; /* by their time */
 } watched;
-
-/* A path that was taken out of its ring. */
-typedef struct taken_path {
-    parked_facts facts;
-    uint64_t key[2];
-    size_t at, length; /* of the keeper's bytes */
-} taken_path;
 
 struct keeper {
     uint64_t now_ms;
     uint64_t seen_ms;           /* what was evicted before this is counted */
     uint64_t flushed;           /* so many keys had come when a flush was asked for */
     uint64_t again;             /* lanes that couldn't be had, or have more than a turn keeps: they are looked at as a whole once more */
+    uint64_t waiting;           /* lanes with paths to keep that stay in their ring until the disk has room; others may look at it at any time */
     uint64_t missed, least_ms;
     heard_key untold[MOST_UNTOLD];
     size_t untold_count;
     heard_key fresh[KEYS_AT_ONCE];
-    size_t fresh_count, hit_count, taken_count;
+    size_t fresh_count, hit_count;
     uint64_t hits[MOST_HITS]; /* numbers of places */
-    taken_path taken[MOST_HITS];
-    uint8_t *bytes;
-    size_t size, used;
     watched watches[];
 };
 
 struct keeper *keeper_new(const body *tracer) {
     struct keeper *keeper = calloc(1, sizeof *keeper + tracer->count * sizeof keeper->watches[0]);
-    if (keeper == NULL) return NULL;
-    keeper->size = MOST_BATCH(&tracer->options);
-    keeper->bytes = malloc(keeper->size);
-    keeper->least_ms = UINT64_MAX;
-    if (keeper->bytes != NULL) return keeper;
-    free(keeper);
-    return NULL;
+    if (keeper != NULL) keeper->least_ms = UINT64_MAX;
+    return keeper;
 }
 
-void keeper_drop(struct keeper *keeper) {
-    if (keeper != NULL) free(keeper->bytes);
-    free(keeper);
-}
+void keeper_drop(struct keeper *keeper) { free(keeper); }
 
 uint64_t keeper_missed(const struct keeper *keeper) { return LOAD(&keeper->missed); }
 
 uint64_t keeper_least_ms(const struct keeper *keeper) { return LOAD(&keeper->least_ms); }
 
-bool keeper_is_due(const body *tracer) { return tracer->keeper != NULL && (tracer->keeper->again != 0 || tracer->keeper->untold_count > 0 || keys_are_waiting(tracer->keys)); }
+bool keeper_is_due(const body *tracer) {
+    const struct keeper *keeper = tracer->keeper;
+    return keeper != NULL && ((keeper->again | keeper->waiting) != 0 || keeper->untold_count > 0 || keys_are_waiting(tracer->keys));
+}
+
+bool keeper_waits_for_disk(const body *tracer) { return tracer->keeper != NULL && LOAD(&tracer->keeper->waiting) != 0; }
 
 /* ---- How long paths are parked. ---- */
 
@@ -136,7 +125,7 @@ static void expire_lane(struct keeper *keeper, struct lane *lane, uint64_t park_
 
 /* ---- Which are kept. ---- */
 
-static uint64_t tag_at(const parked_paths *parked, uint64_t number) { return LOAD(&parked->tags[number % (TAGS_A_PLACE * parked->places)]); }
+static uint64_t tag_at(const parked_paths *parked, uint64_t number) { return LOAD(&parked->tags[number % parked->tag_count]); }
 
 static uint64_t later(uint64_t one, uint64_t other) { return one > other ? one : other; }
 
@@ -153,21 +142,24 @@ static uint64_t find_hits(struct keeper *keeper, const struct keys *keys, const 
 }
 
 /* Takes the path of a place out of its ring, where it is there, has a key that is remembered, and isn't too old; false: there is no room. */
-static bool take_hit(const body *tracer, struct lane *lane, uint64_t number) {
-    struct keeper *keeper = tracer->keeper;
+static bool take_hit(body *tracer, struct lane *lane, uint64_t number) {
+    taken_paths *taken = &tracer->taken;
     parked_paths *parked = &lane->parked;
-    const uint64_t first = LOAD(&parked->first);
+    const uint64_t first = LOAD(&parked->first), at = number % parked->tag_count;
     dspec_parked block;
-    if (number < later(first, keeper->watches[lane->number].due) || dspec_parking_at(&parked->ring, number - first, &block) != DSPEC_OK) return true;
+    if (number < later(first, tracer->keeper->watches[lane->number].due) || dspec_parking_at(&parked->ring, number - first, &block) != DSPEC_OK) return true;
     const uint64_t key[] = { block.key_high, block.key_low };
     if (!keys_have(tracer->keys, key)) return true;
-    if (keeper->used + block.length + 2 * BYTES_OF_PATH > keeper->size) return false;
-    if (dspec_parking_take(&parked->ring, number - first, keeper->bytes + keeper->used, keeper->size - keeper->used, &block) != DSPEC_OK) return true;
-    keeper->taken[keeper->taken_count++] = (taken_path){ parked->facts[number % parked->places], { key[0], key[1] }, keeper->used, block.length };
-    keeper->used += dspec_multiple_from(block.length, 8) + BYTES_OF_PATH;
-    STORE(&parked->tags[number % (TAGS_A_PLACE * parked->places)], 0);
+    if (!taken_has_room(taken, block.length)) return false;
+    taken_begins(taken, lane->number, &(taken_path){ { key[0], key[1] }, (uint32_t)(block.stamp >> 32), (uint32_t)block.stamp, parked->untold[at], 0, block.length });
+    if (dspec_parking_take(&parked->ring, number - first, taken->bytes + taken->used, taken->size - taken->used, &block) != DSPEC_OK) {
+        taken_gives_up(taken);
+        return true;
+    }
+    taken_adds(tracer);
+    STORE(&parked->tags[at], 0);
     STORE(&parked->kept, parked->kept + 1);
-    STORE(&lane->cut, lane->cut + (parked->facts[number % parked->places].untold > 0));
+    STORE(&lane->cut, lane->cut + (parked->untold[at] > 0));
     return true;
 }
 
@@ -190,53 +182,21 @@ static bool has_open_hit(const struct keys *keys, const struct lane *lane) {
     return false;
 }
 
-/* ---- What is kept is written. ---- */
-
-static void put_number(uint8_t *at, uint64_t number, size_t width) {
-    for (size_t i = 0; i < width; i++) at[i] = (uint8_t)(number >> 8 * i);
-}
-
-/* The stamp of the first record; 0: there is none. */
-static uint64_t begun_of(const body *tracer, const uint8_t *bytes, size_t length) {
-    dspec_record first;
-    size_t at = 0;
-    return dspec_read(&tracer->layout, bytes, length, &at, &first) == DSPEC_READ ? first.stamp : 0;
-}
-
-/* Puts the path's event after its records, as the library lays it out, at a multiple of eight bytes. */
-static void put_event(const body *tracer, const taken_path *path, uint8_t *bytes) {
-    uint8_t *event = bytes + path->at + dspec_multiple_from(path->length, 8);
-    memset(bytes + path->at + path->length, 0, (size_t)(event - bytes) - path->at - path->length);
-    put_number(event, (uint32_t)tracer->claim_of_path, 4);
-    put_number(event + 4, stamp_of(tracer), 8);
-    put_number(event + 12, path->facts.number, 4);
-    put_number(event + 16, path->facts.thread, 8);
-    put_number(event + 24, path->facts.untold | (uint64_t)DSPEC_WHY_KEY << 32, 8);
-    put_number(event + 32, begun_of(tracer, bytes + path->at, path->length), 8);
-    put_number(event + 40, path->key[0], 8);
-    put_number(event + 48, path->key[1], 8);
-}
-
-/* Writes what was taken out of a lane's ring, as a batch of that lane. */
-static void write_taken(body *tracer, struct lane *lane) {
-    struct keeper *keeper = tracer->keeper;
-    const dspec_batch batch = { keeper->bytes, keeper->used, 0, lane->number };
-    if (keeper->taken_count == 0) return;
-    for (size_t i = 0; i < keeper->taken_count; i++) put_event(tracer, &keeper->taken[i], keeper->bytes);
-    STORE(&lane->parked.records, lane->parked.records + dspec_folder_counts_(&tracer->layout, &batch) - keeper->taken_count);
-    dspec_folder_take(&tracer->folder, &tracer->layout, &batch);
-    keeper->taken_count = keeper->used = 0;
-}
-
 /* ---- A turn. ---- */
 
 /* Keeps what was found up to a number, on a lane that the consumer has: up to which number. */
-static uint64_t keep_hits(const body *tracer, struct lane *lane, uint64_t to) {
+static uint64_t keep_hits(body *tracer, struct lane *lane, uint64_t to) {
     const struct keeper *keeper = tracer->keeper;
     mark_open(tracer, lane);
     for (size_t i = 0; i < keeper->hit_count; i++)
         if (!take_hit(tracer, lane, keeper->hits[i])) return keeper->hits[i];
     return to;
+}
+
+/* Notes whether a lane's paths wait for the disk. */
+static void note_waiting(struct keeper *keeper, uint32_t lane, bool waits) {
+    const uint64_t bit = UINT64_C(1) << lane;
+    STORE(&keeper->waiting, waits ? keeper->waiting | bit : keeper->waiting & ~bit);
 }
 
 /* Looks at a lane: at what came since the last time, or at all. */
@@ -246,25 +206,35 @@ static void look_at(body *tracer, struct lane *lane, bool at_all) {
     patience left = patience_of(LOOK_US);
     const uint64_t end = __atomic_load_n(&lane->parked.end, __ATOMIC_ACQUIRE), from = later(later(LOAD(&lane->parked.first), watch->due), at_all ? 0 : watch->looked);
     uint64_t to = find_hits(keeper, tracer->keys, &lane->parked, from, end);
+    const bool waits = keeper->hit_count > 0 && !taken_has_disk(tracer, lane->number, keeper->hit_count);
+    if (waits) keeper->hit_count = 0;
     if (keeper->hit_count > 0 || has_open_hit(tracer->keys, lane)) {
         const bool has = lane_take(lane, 0, &left);
         to = has ? keep_hits(tracer, lane, to) : from;
         if (has) lane_release(lane, 0);
-        write_taken(tracer, lane);
+        taken_writes(tracer, lane);
         if (!has || to < end) keeper->again |= UINT64_C(1) << lane->number;
     }
-    watch->looked = to;
+    note_waiting(keeper, lane->number, waits);
+    watch->looked = waits ? from : to;
 }
 
-/* Counts the paths of keys that came now and that were here and are gone, as far as the notes of their places are there. */
-static void count_missed(body *tracer, const parked_paths *parked, uint64_t due) {
+static bool is_fresh(const struct keeper *keeper, uint64_t tag) {
+    for (size_t i = 0; i < keeper->fresh_count; i++)
+        if (keeper->fresh[i].tag == tag) return true;
+    return false;
+}
+
+/* Counts the paths that are gone though their key is remembered: of places that went since the last turn, and where keys came now of all whose notes are there, those of these keys. */
+static void count_missed(body *tracer, const parked_paths *parked, watched *watch) {
     struct keeper *keeper = tracer->keeper;
-    const uint64_t end = __atomic_load_n(&parked->end, __ATOMIC_ACQUIRE), gone = later(LOAD(&parked->first), due);
-    for (uint64_t number = end > TAGS_A_PLACE * parked->places ? end - TAGS_A_PLACE * parked->places : 0; number < gone; number++) {
+    const uint64_t end = __atomic_load_n(&parked->end, __ATOMIC_ACQUIRE), gone = later(LOAD(&parked->first), watch->due), noted = parked->tag_count;
+    for (uint64_t number = later(end > noted ? end - noted : 0, keeper->fresh_count > 0 ? 0 : watch->gone); number < gone; number++) {
         const uint64_t tag = tag_at(parked, number);
         if (tag == 0 || !keys_have_tag(tracer->keys, tag)) continue;
-        for (size_t i = 0; i < keeper->fresh_count; i++) STORE(&keeper->missed, keeper->missed + (keeper->fresh[i].tag == tag));
+        STORE(&keeper->missed, keeper->missed + (number >= watch->gone || is_fresh(keeper, tag)));
     }
+    watch->gone = gone;
 }
 
 /* Hears the keys that came. The program is to be told of those that were kept here. */
@@ -285,19 +255,19 @@ static void look(body *tracer, uint64_t which) {
         struct lane *lane = &tracer->lanes[i];
         const bool at_all = tracer->keeper->fresh_count > 0;
         if (keys_are_any(tracer->keys) && (at_all || which >> i & 1)) look_at(tracer, lane, at_all);
-        if (at_all) count_missed(tracer, &lane->parked, tracer->keeper->watches[i].due);
+        count_missed(tracer, &lane->parked, &tracer->keeper->watches[i]);
     }
     tracer->keeper->fresh_count = 0;
 }
 
 void keeper_turns(body *tracer) {
     struct keeper *keeper = tracer->keeper;
-    uint64_t which = keeper->again;
+    uint64_t which = keeper->again | keeper->waiting;
     keeper->again = 0;
     keeper->now_ms = dspec_monotonic() / 1000000;
     for (uint32_t i = 0; i < tracer->count; i++) expire_lane(keeper, &tracer->lanes[i], tracer->options.park_ms);
     keeper->seen_ms = keeper->now_ms;
-    keys_forget(tracer->keys, keeper->now_ms);
+    keys_forget(tracer->keys, keeper->now_ms, which != 0);
     hear(tracer);
     for (uint32_t i = 0; i < tracer->count; i++) which |= (uint64_t)!(state_of(&tracer->lanes[i]) & IDLE) << i;
     look(tracer, which);
@@ -339,7 +309,9 @@ void keeper_ends_lane(body *tracer, struct lane *lane) {
     const uint64_t end = lane->parked.end;
     for (uint64_t from = later(lane->parked.first, keeper->watches[lane->number].due), to;; from = to) {
         to = keep_hits(tracer, lane, find_hits(keeper, tracer->keys, &lane->parked, from, end));
-        write_taken(tracer, lane);
-        if (to == end) return;
+        taken_writes(tracer, lane);
+        if (to == end) break;
     }
+    note_waiting(keeper, lane->number, false);
+    count_missed(tracer, &lane->parked, &keeper->watches[lane->number]);
 }

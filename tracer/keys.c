@@ -127,8 +127,8 @@ static void take_out(struct keys *keys, uint32_t empty) {
     }
 }
 
-void keys_forget(struct keys *keys, uint64_t now_ms) {
-    for (; keys->count > 0; keys->count--, keys->oldest++) {
+void keys_forget(struct keys *keys, uint64_t now_ms, bool are_needed) {
+    for (; keys->count > (are_needed ? MOST_REMEMBERED - KEYS_AT_ONCE : 0); keys->count--, keys->oldest++) {
         const dated_key *oldest = &keys->dated[keys->oldest % MOST_REMEMBERED];
         if (now_ms - oldest->at_ms <= keys->remember_ms) return;
         take_out(keys, where_is(keys, key_tag(oldest->key), oldest->key));

@@ -7,6 +7,10 @@
 
 /* So many paths of a thread that hands them on are begun on a lane of all. */
 enum { HANDS_ON = 64 };
+/* A lane that was one thread's alone for so many paths in a row is kept by it: what they spare is what it costs another thread to take it over. A test has fewer. */
+#ifndef DSPEC_KEPT_AFTER
+#define DSPEC_KEPT_AFTER 64
+#endif
 /* So long after a store no processor keeps it to itself any more, by far. */
 enum { STORED_US = 2000 };
 
@@ -87,17 +91,19 @@ way lane_enter_slowly(dspec_tracer_seat *seat, struct lane *lane) {
 /* ---- Which lane. ---- */
 
 /* The lane so many after the one that the thread had last. */
-static struct lane *lane_behind(body *tracer, const dspec_tracer_seat *seat, uint32_t many) {
+static struct lane *lane_after(body *tracer, const dspec_tracer_seat *seat, uint32_t many) {
     uint32_t at = lane_of(seat->last)->number + many;
     return &tracer->lanes[at < tracer->count ? at : at - tracer->count];
 }
+
+/* A lane's state, once it is a thread's own: nobody shares it, but where each call takes the lock. */
+static uint32_t as_own(const body *tracer, uint32_t state) { return LOAD(&tracer->locked) ? state : state & ~(uint32_t)SHARED; }
 
 /* Makes a lane that nobody is on the thread's own: whether it is. users: its own claim, and that of a path where it is for one. */
 INTO_CALLER bool claims(const body *tracer, dspec_tracer_seat *seat, struct lane *lane, uint32_t users) {
     uint32_t state = LOAD(&lane->front.state);
     while (state < USER && !(state & GONE)) {
-        const uint32_t is = (LOAD(&tracer->locked) ? state : state & ~(uint32_t)SHARED) + users * USER;
-        if (!LIKELY(state_becomes(lane, &state, is))) continue;
+        if (!LIKELY(state_becomes(lane, &state, as_own(tracer, state) + users * USER))) continue;
         STORE(&lane->handed, 0);
         seat->last = &lane->front;
         seat_owns(seat, &lane->front);
@@ -106,13 +112,103 @@ INTO_CALLER bool claims(const body *tracer, dspec_tracer_seat *seat, struct lane
     return false;
 }
 
-/* Of any lane, the one that the thread had last before others; NULL: somebody is on each. */
-static struct lane *claim(body *tracer, dspec_tracer_seat *seat, uint32_t users) {
-    for (uint32_t i = 0; i < tracer->count; i++) {
-        struct lane *lane = lane_behind(tracer, seat, i);
-        if (claims(tracer, seat, lane, users)) return lane;
+/* ---- A lane that is kept between paths. ---- */
+
+/* A flag that no thread has; NULL: each is some thread's. */
+static uint8_t *free_flag(struct lane *lane) {
+    for (size_t number = 1; number <= FLAGS; number++) {
+        uint8_t is = FREE_FLAG;
+        if (__atomic_compare_exchange_n(&lane->uses[number], &is, RESTS, false, __ATOMIC_SEQ_CST, __ATOMIC_SEQ_CST)) return &lane->uses[number];
     }
     return NULL;
+}
+
+static void flag_free(uint8_t *flag) { __atomic_exchange_n(flag, FREE_FLAG, __ATOMIC_SEQ_CST); }
+
+/* Whether a thread had a lane alone for so many paths in a row. That one isn't asked again for as many. */
+static bool is_due(struct lane *lane) {
+    if (lane->had_by != dspec_tracer_token_6) lane->in_a_row = 0;
+    lane->had_by = dspec_tracer_token_6;
+    if (++lane->in_a_row < DSPEC_KEPT_AFTER) return false;
+    lane->in_a_row = 0;
+    return true;
+}
+
+bool lane_keeps(dspec_tracer_seat *seat, struct lane *lane) {
+    uint32_t state = AT_REST;
+    uint8_t *flag;
+    if (LIKELY(!is_due(lane)) || LOAD(&lane->tracer->locked) || (flag = free_flag(lane)) == NULL) return false;
+    const uint32_t kept = AT_REST + (uint32_t)(flag - lane->uses) * FLAG;
+    if (state_becomes(lane, &state, kept)) seat->kept = (uint16_t)kept;
+    else flag_free(flag);
+    return seat->kept != 0;
+}
+
+/* The thread keeps a lane no longer, and so many are counted off it: whether it was kept until now. Where another thread is taking it, that comes to an end first: it may leave it. */
+static bool lane_unkeep(dspec_tracer_seat *seat, uint32_t users) {
+    struct lane *lane = lane_of(seat->last);
+    uint8_t *flag = flag_of(lane, seat->kept);
+    const uint32_t kept = seat->kept & KEPT;
+    uint32_t state = state_of(lane);
+    patience left = patience_of(ENTER_US);
+    seat->kept = 0;
+    while ((state & KEPT) == kept || (state & (HELD | GONE)) == HELD) {
+        if ((state & KEPT) != kept) {
+            if (is_spent(&left)) return false; /* the flag stays taken: the lane may still come back to it, and then it is others' to take */
+            wait_on(&left);
+            state = state_of(lane);
+        } else if (state_becomes(lane, &state, state - kept - users * USER)) {
+            flag_free(flag);
+            return true;
+        }
+    }
+    flag_free(flag);
+    return false;
+}
+
+/* Makes a lane that another thread keeps and doesn't use the thread's own, for a path: whether it is. */
+static bool takes_over(body *tracer, dspec_tracer_seat *seat, struct lane *lane) {
+    uint32_t state = state_of(lane);
+    const uint32_t kept = state & KEPT;
+    const uint8_t *flag = &lane->uses[kept / FLAG];
+    if (kept == 0 || state / USER != AT_REST / USER || state & (HELD | GONE | WANTED) || LOAD(flag) == IN_USE) return false;
+    if (!state_becomes(lane, &state, (as_own(tracer, state) - kept) | HELD)) return false;
+    order(tracer);
+    if (__atomic_load_n(flag, __ATOMIC_ACQUIRE) == IN_USE) {
+        __atomic_fetch_add(&lane->front.state, kept - HELD, __ATOMIC_SEQ_CST);
+        return false;
+    }
+    STORE(&lane->handed, 0);
+    seat->last = &lane->front;
+    seat_owns(seat, &lane->front);
+    state_clear(lane, HELD);
+    return true;
+}
+
+/* Of any lane, the one that the thread had last before others, and those that are free before those that are kept; NULL: somebody is on each. */
+static struct lane *claim(body *tracer, dspec_tracer_seat *seat, uint32_t users) {
+    for (uint32_t i = 0; i < tracer->count; i++) {
+        struct lane *lane = lane_after(tracer, seat, i);
+        if (claims(tracer, seat, lane, users)) return lane;
+    }
+    for (uint32_t i = 0; i < tracer->count; i++) {
+        struct lane *lane = lane_after(tracer, seat, i);
+        if (takes_over(tracer, seat, lane)) return lane;
+    }
+    return NULL;
+}
+
+void lanes_give_up(dspec_tracer_seat *seat) {
+    struct lane *own = lane_of(seat->own);
+    seat_owns(seat, NULL);
+    if (seat->kept != 0) lane_unkeep(seat, own != NULL ? 1 : 2);
+    else if (own != NULL) __atomic_fetch_sub(&own->front.state, USER, __ATOMIC_SEQ_CST);
+}
+
+/* Whether the lane that a thread keeps is its own again, for a path: it may be taken, wanted or shared. */
+RARELY static bool is_kept_still(dspec_tracer_seat *seat) {
+    if (lane_is_kept(seat, lane_of(seat->last), HELD | GONE | SERVE | IDLE | WANTED) || lane_unkeep(seat, 0)) seat_owns(seat, seat->last);
+    return seat->own != NULL;
 }
 
 /* The lane that the fewest are on. */
@@ -137,13 +233,13 @@ struct lane *lane_shared(body *tracer, uint32_t number) {
 RARELY static void take_back(dspec_tracer_seat *seat, struct lane *lane) {
     seat->open = (uint16_t)(seat->open - __atomic_exchange_n(&lane->handed, 0, __ATOMIC_RELAXED));
     if (seat->open != 0 || lane->tracer->by_thread) return;
-    seat_owns(seat, NULL);
-    __atomic_fetch_sub(&lane->front.state, USER, __ATOMIC_SEQ_CST);
+    lanes_give_up(seat);
     dspec_here.hands_on = HANDS_ON;
 }
 
 struct lane *lane_for_path(body *tracer, dspec_tracer_seat *seat) {
     struct lane *lane = lane_of(seat->own);
+    if (lane == NULL && seat->kept != 0 && is_kept_still(seat)) return lane_of(seat->own);
     if (lane == NULL && LIKELY(dspec_here.hands_on == 0) && LIKELY(claims(tracer, seat, lane_of(seat->last), 2))) return lane_of(seat->last);
     if (lane != NULL && !LIKELY(LOAD(&lane->handed) == 0)) {
         take_back(seat, lane);
@@ -157,9 +253,10 @@ struct lane *lane_for_path(body *tracer, dspec_tracer_seat *seat) {
 struct lane *lane_for_record(body *tracer, dspec_tracer_seat *seat) {
     struct lane *lane = lane_of(seat->own);
     if (lane != NULL || (tracer->by_thread && (lane = claim(tracer, seat, 1)) != NULL)) return lane;
+    lanes_give_up(seat); /* one that is kept is entered by its lock from here, as any other */
     for (uint32_t i = 0; i < tracer->count; i++) {
         uint32_t state;
-        lane = lane_behind(tracer, seat, i);
+        lane = lane_after(tracer, seat, i);
         state = LOAD(&lane->front.state);
         if (state < USER && !(state & (HELD | WANTED))) return seat->last = &lane->front, lane;
     }

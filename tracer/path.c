@@ -50,7 +50,7 @@ static uint32_t next_number(struct lane *lane) {
 
 /* Opens a path on a lane, which the caller is in: whether there is a slot. own: whether it is the thread's own. */
 INTO_CALLER bool open_on(struct lane *lane, dspec_path *path, bool own, uint64_t now) {
-    const uint32_t token = dspec_tracer_token_5;
+    const uint32_t token = dspec_tracer_token_6;
     uint32_t place;
     path->mark = (uint64_t)next_number(lane) << 32;
     if (dspec_paths_begin(&lane->paths, &lane->front.cpu, (uint32_t)(path->mark >> 32), token, now, &place, &path->id) != DSPEC_OK) return false;
@@ -73,7 +73,7 @@ RARELY dspec_status dspec_tracer_put_long(dspec_cpu *cpu, uint64_t id, uint64_t 
 
 /* A record of a path, into the speculation that it has on its lane, which the caller is in. */
 INTO_CALLER dspec_status put_once(struct lane *lane, const dspec_path *path, uint64_t claim, const uint64_t *words, size_t n, uint64_t now) {
-    STORE(&dspec_tracer_recent_5, path->mark);
+    STORE(&dspec_tracer_recent_6, path->mark);
     return dspec_tracer_put_in_(&lane->front.cpu, path->id, claim, now, words[0] | path->mark, words, n);
 }
 
@@ -113,7 +113,10 @@ static bool turn(struct lane *lane, dspec_path *path) {
 
 RARELY bool dspec_path_turn(dspec_path *path, const dspec_event *event, dspec_status status) {
     struct lane *lane = lane_of(path->lane);
-    if (status == DSPEC_DROPPED) return turn(lane, path);
+    if (status == DSPEC_DROPPED) {
+        lane->parked.is_simple = false;
+        return turn(lane, path);
+    }
     if (status == DSPEC_BAD_RECORD && dspec_tracer_claim_(event, lane->front.slot) <= DSPEC_TRACER_OFF_) count_missing(lane->tracer, event);
     return false;
 }
@@ -170,7 +173,7 @@ INTO_CALLER bool begin_on(struct lane *lane, dspec_tracer_seat *seat, dspec_path
 INTO_CALLER dspec_status begin_on_last(dspec_tracer_seat *seat, dspec_path *path, const dspec_event *event, const uint64_t *words, size_t n) {
     dspec_status status = DSPEC_UNAVAILABLE;
     if (!LIKELY(path->lane == NULL)) return status;
-    if (!LIKELY(seat->plain == LOAD(&path->tracer->run)) || !LIKELY(dspec_here.hands_on == 0)) return status;
+    if (!LIKELY(seat->plain == LOAD(&path->tracer->run))) return status;
     struct lane *lane = lane_of(seat->last);
     const uint64_t claim = dspec_tracer_claim_(event, lane->front.slot);
     if (!LIKELY(claim > DSPEC_TRACER_OFF_) || !LIKELY(lane_claim_last(seat, lane))) return status;
@@ -209,7 +212,7 @@ static dspec_status begin(body *tracer, dspec_tracer_seat *seat, dspec_path *pat
     if (LIKELY(lane != NULL) && LIKELY(begin_on(lane, seat, path, event, words, n, &status))) return status;
     if (begin_elsewhere(tracer, seat, path, event, words, n, &status)) return status;
     is_over(path);
-    STORE(&dspec_tracer_recent_5, REFUSED_PATH);
+    STORE(&dspec_tracer_recent_6, REFUSED_PATH);
     if (!LOAD(&tracer->up)) return DSPEC_STOPPED;
     ADD(&tracer->no_slot, 1);
     ADD(&tracer->refused_records, 1);
@@ -219,8 +222,8 @@ static dspec_status begin(body *tracer, dspec_tracer_seat *seat, dspec_path *pat
 
 /* A path is this thread's from now on: whether it is still open. The caller is in its lane. */
 static bool adopt(struct lane *lane, const dspec_path *path) {
-    if (dspec_paths_adopt(&lane->paths, path->place, path->id, dspec_tracer_token_5) != DSPEC_OK) return false;
-    STORE(&lane->open[path->place].token, dspec_tracer_token_5);
+    if (dspec_paths_adopt(&lane->paths, path->place, path->id, dspec_tracer_token_6) != DSPEC_OK) return false;
+    STORE(&lane->open[path->place].token, dspec_tracer_token_6);
     return true;
 }
 
@@ -238,7 +241,7 @@ static dspec_status go_on(dspec_tracer_seat *seat, dspec_path *path, const dspec
     const way in = lane_enter(seat, lane);
     if (in == NOT_IN) return DSPEC_STOPPED;
     if (adopt(lane, path)) {
-        path->token = path->own && path->lane == seat->own ? dspec_tracer_token_5 : 0;
+        path->token = path->own && path->lane == seat->own ? dspec_tracer_token_6 : 0;
         status = put_on(lane, path, event, words, n, dspec_tracer_stamp_(&lane->front.clock));
     } else if (!is_ended(lane, path->mark)) {
         is_over(path);
@@ -256,7 +259,7 @@ static body *body_of_path(const dspec_path *path) {
 /* A further record of a path that got no slot is counted; one of a path that began while the tracer was off isn't. */
 RARELY static dspec_status refused(const dspec_path *path) {
     body *tracer = path->over == 1 ? body_of(path->tracer) : NULL;
-    STORE(&dspec_tracer_recent_5, REFUSED_PATH);
+    STORE(&dspec_tracer_recent_6, REFUSED_PATH);
     if (tracer != NULL && LOAD(&tracer->up)) {
         ADD(&tracer->refused_records, 1);
         consumer_stirs(tracer);
@@ -383,11 +386,34 @@ INTO_CALLER dspec_status throw(struct lane *lane, uint32_t place, uint64_t id) {
     return status;
 }
 
-/* Parks a path, or throws it away where it has no key, or the tracer no ring. */
-static dspec_status park(struct lane *lane, uint32_t place, uint64_t id, uint64_t mark) {
-    const open_path *opened = &lane->open[place];
+/* Notes the path whose records have just become the newest place. The place is shown last. */
+INTO_CALLER void note_parked(parked_paths *parked, uint64_t tag, const dspec_passed *gone) {
+    const uint64_t at = parked->next;
+    parked->next = at + 1 < parked->tag_count ? at + 1 : 0;
+    STORE(&parked->first, parked->first + gone->places);
+    STORE(&parked->evicted, parked->evicted + gone->blocks);
+    STORE(&parked->tags[at], tag);
+    __atomic_store_n(&parked->end, parked->end + 1, __ATOMIC_RELEASE);
+}
+
+/* Its records go into the lane's ring, where it is open, and its speculation is thrown away. */
+INTO_CALLER dspec_status park_open(struct lane *lane, uint32_t place, uint64_t id, uint64_t mark) {
+    const open_path *opened = place_at(lane, place);
+    dspec_passed gone;
+    dspec_status status, thrown;
+    if (!LIKELY(opened->mark == mark)) return DSPEC_VOID;
+    status = dspec_parking_park(&lane->parked.ring, &lane->front.cpu, (uint32_t)(id % SLOTS), opened->key[0], opened->key[1], mark | opened->thread, &gone);
+    if (LIKELY(status == DSPEC_OK)) note_parked(&lane->parked, opened->tag, &gone);
+    thrown = dspec_paths_discard(&lane->paths, &lane->front.cpu, place, id);
+    return LIKELY(status == DSPEC_OK) || thrown != DSPEC_OK ? thrown : THROWN_AWAY;
+}
+
+/* Parks a path, or throws it away where it has no key, or the lane no ring. One whose key is kept is kept. */
+INTO_CALLER dspec_status park(struct lane *lane, uint32_t place, uint64_t id, uint64_t mark) {
+    const open_path *opened = place_at(lane, place);
     dspec_status status;
-    if (LIKELY(opened->key_state == HAS_KEY) && LIKELY(lane->tracer->keys != NULL)) status = path_park(lane, place, id, mark);
+    if (LIKELY(opened->key_state == HAS_KEY) && (LIKELY(lane->parked.is_simple) || park_notes_untold(&lane->parked, &lane->front.cpu, id))) status = park_open(lane, place, id, mark);
+    else if (opened->key_state == IS_WANTED) return keep_by_key(lane, place, id);
     else status = path_discard(lane, place, id) == DSPEC_OK ? THROWN_AWAY : DSPEC_VOID;
     if (!LIKELY(status != THROWN_AWAY)) STORE(&lane->thrown, lane->thrown + 1);
     return status;
@@ -397,9 +423,9 @@ static dspec_status park(struct lane *lane, uint32_t place, uint64_t id, uint64_
  * it waits for room, DSPEC_VOID where it isn't open. */
 INTO_CALLER dspec_status end_at(struct lane *lane, uint32_t place, uint64_t id, uint64_t mark, ending as, bool waits, uint32_t why) {
     dspec_status status;
-    if (as != KEEPS && !LIKELY(place_at(lane, place)->key_state != IS_WANTED)) return keep_by_key(lane, place, id);
-    if (as == DROPS) return throw(lane, place, id);
     if (as == PARKS) return park(lane, place, id, mark);
+    if (as == DROPS && !LIKELY(place_at(lane, place)->key_state != IS_WANTED)) return keep_by_key(lane, place, id);
+    if (as == DROPS) return throw(lane, place, id);
     status = path_commit(lane, place, id, why, waits ? WAITS_FOR_ROOM : ANY_ROOM);
     if (LIKELY(status == DSPEC_OK)) STORE(&lane->kept, lane->kept + 1);
     return status;
@@ -431,7 +457,7 @@ RARELY static bool take_ended(struct lane *lane, uint64_t mark, ended_path *foun
 }
 
 /* A path whose end can't get into its lane is thrown away by the next one that has it. */
-RARELY static dspec_status leave_behind(struct lane *lane, open_path *path, uint64_t mark) {
+RARELY static dspec_status leave_after(struct lane *lane, open_path *path, uint64_t mark) {
     if (state_of(lane) & GONE) return DSPEC_STOPPED;
     STORE(&path->left, mark);
     __atomic_store_n(&lane->left, 1, __ATOMIC_RELEASE);
@@ -476,7 +502,7 @@ INTO_CALLER dspec_status end(dspec_tracer_seat *seat, dspec_path *path, ending a
     is_over(path);
     for (;;) {
         in = lane_enter(seat, lane);
-        if (in == NOT_IN) return leave_behind(lane, opened, path->mark);
+        if (in == NOT_IN) return leave_after(lane, opened, path->mark);
         status = decide(lane, path, as, most > 0 && dspec_monotonic() - began < most, why);
         if (!LIKELY(status != DSPEC_VOID)) return end_late(seat, lane, in, path, as, own);
         serve_if_asked(lane);
@@ -592,8 +618,8 @@ static bool take_over(dspec_path *path, const uint64_t *key) {
     const way in = lane_enter(seat, lane);
     if (in != NOT_IN) {
         is_open = adopt(lane, path);
-        if (is_open) path->token = path->own && path->lane == seat->own ? dspec_tracer_token_5 : 0;
-        if (is_open) STORE(&dspec_tracer_recent_5, path->mark);
+        if (is_open) path->token = path->own && path->lane == seat->own ? dspec_tracer_token_6 : 0;
+        if (is_open) STORE(&dspec_tracer_recent_6, path->mark);
         if (is_open && key != NULL) set_key(lane, &lane->open[path->place], key);
         if (!is_open && !is_ended(lane, path->mark)) is_over(path);
         lane_leave(lane, in);
@@ -691,5 +717,5 @@ void path_ends_with_thread(body *tracer, dspec_tracer_seat *seat, uint32_t token
         lane_leave(lane, in);
         __atomic_fetch_sub(&lane->front.state, found * USER, __ATOMIC_SEQ_CST);
     }
-    if (seat->own != NULL) __atomic_fetch_sub(&seat->own->state, USER, __ATOMIC_SEQ_CST);
+    lanes_give_up(seat);
 }

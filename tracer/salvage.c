@@ -12,6 +12,7 @@ struct salvage {
     const char *path, *folder;
     uint32_t last_lane, last_place; /* of the open path that was found last */
     bool is_owed; /* the event that the lane owes wasn't found among its records */
+    bool is_parked; /* the path that the consumer was taking is in its ring still */
     writing kept, open;
 };
 
@@ -43,10 +44,10 @@ static bool write_owed(struct salvage *salvage, uint32_t number) {
     uint8_t bytes[BYTES_OF_PATH];
     dspec_record is;
     size_t at = 0;
-    salvage_put(bytes, (uint32_t)salvage->file.tracer->claim_of_path, 4);
-    salvage_put(bytes + 4, lane->owed_at, 8);
-    salvage_put(bytes + 12, owed_path(lane), 4);
-    for (size_t i = 1; i < WORDS_OF_PATH; i++) salvage_put(bytes + 8 + 8 * i, lane->owed[i], 8);
+    number_put(bytes, (uint32_t)salvage->file.tracer->claim_of_path, 4);
+    number_put(bytes + 4, lane->owed_at, 8);
+    number_put(bytes + 12, owed_path(lane), 4);
+    for (size_t i = 1; i < WORDS_OF_PATH; i++) number_put(bytes + 8 + 8 * i, lane->owed[i], 8);
     batch.batch = (dspec_batch){ bytes, sizeof bytes, 0, number };
     if (dspec_read(&salvage->file.layout, bytes, sizeof bytes, &at, &is) != DSPEC_READ || at != sizeof bytes || is.stamp > salvage->file.latest)
         return fail(salvage, "a lane", "what it owes is no event of a path");
@@ -63,7 +64,13 @@ static bool get_kept(struct salvage *salvage, found_batch *batch) {
     return true;
 }
 
+/* Whether a parked path is the one that the consumer was taking out of this lane's ring. */
+static bool is_next(const taken_paths *taken, const found_batch *batch) {
+    return batch->kind == FOUND_PARKED && taken->lane == batch->batch.cpu && taken->next.number == batch->path;
+}
+
 static bool get_path(struct salvage *salvage, const found_batch *batch) {
+    salvage->is_parked |= is_next(&salvage->file.tracer->taken, batch);
     if (batch->records == 0) return true;
     if (salvage->open.name == NULL) is_without(salvage, "undecided", writing_begin(&salvage->open, &salvage->file, salvage->folder, true));
     if (!salvage->open.is_begun) return false;
@@ -75,6 +82,28 @@ static bool get_path(struct salvage *salvage, const found_batch *batch) {
 
 static bool get(void *to, found_batch *batch) { return batch->kind >= FOUND_OPEN ? get_path(to, batch) : get_kept(to, batch); }
 
+/* What was taken out of a lane's ring to be kept, and isn't in the folder. */
+static bool get_taken(struct salvage *salvage, uint32_t number, bool is_read) {
+    const taken_paths *taken = &salvage->file.tracer->taken;
+    found_batch batch;
+    uint8_t *bytes;
+    const char *why;
+    bool is_well;
+    if (taken->state == NOTHING_TAKEN || taken->lane != number) return true;
+    why = saved_taken_read(&salvage->file, salvage->is_parked || !is_read, &batch, &bytes);
+    salvage->told->unreadable += why != NULL;
+    if (why != NULL) return fail(salvage, "paths that were being kept", why);
+    is_well = batch.records == 0 || get_kept(salvage, &batch) || fail(salvage, "paths that were being kept", "the folder has more of them than there were");
+    free(bytes);
+    return is_well;
+}
+
+/* Whether a lane was in the middle of something: in a call, or the consumer had a batch of it. */
+static bool is_busy(const saved_file *file, uint32_t number) {
+    const taken_paths *taken = &file->tracer->taken;
+    return saved_lane_is_in_call(file, number) || file->tracer->lanes[number].bringing != NOT_OUT || (taken->state != NOTHING_TAKEN && taken->lane == number);
+}
+
 static bool read_lanes(struct salvage *salvage) {
     bool is_whole = true;
     salvage->last_lane = salvage->last_place = UINT32_MAX;
@@ -82,9 +111,11 @@ static bool read_lanes(struct salvage *salvage) {
     for (uint32_t i = 0; i < salvage->told->lanes; i++) {
         const char *why;
         salvage->is_owed = salvage->file.tracer->lanes[i].owes == OWES_EVENT;
+        salvage->is_parked = false;
         why = saved_lane_read(&salvage->file, i, get, salvage);
         if (why == NULL && salvage->is_owed) is_whole = write_owed(salvage, i) && is_whole;
-        salvage->told->in_call += saved_lane_is_in_call(&salvage->file, i) || salvage->file.tracer->lanes[i].bringing != NOT_OUT;
+        is_whole = get_taken(salvage, i, why == NULL) && is_whole;
+        salvage->told->in_call += is_busy(&salvage->file, i);
         if (why == NULL) continue;
         salvage->told->unreadable++;
         is_whole = fail(salvage, "a lane", why);

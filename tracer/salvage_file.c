@@ -40,7 +40,7 @@ static bool has_sizes(const saved_head *head, uint64_t size) {
     const uint64_t head_size = (sizeof *head + 4095) / 4096 * 4096;
     bool is = head->head_size == head_size && head->body_at == head_size && head->lane_size == sizeof(struct lane) && head->size == size && size <= SURVIVE_APART && is_place(head->address);
     is = is && head->lanes >= 1 && head->lanes <= DSPEC_MAX_LANES && head->body_size == saved_body_size(head->lanes);
-    is = is && head->memory_at == head->body_at + head->body_size && head->memory_at < size;
+    is = is && head->memory_at == head->body_at + head->body_size + saved_taken_size(head->bufsize, head->park_bytes) && head->memory_at < size;
     is = is && head->park_bytes <= UINT64_C(1) << 32;
     return is && head->bufsize >= 8 && head->bufsize <= SAVED_MOST_BYTES && head->bufsize % 8 == 0 && head->paths >= 1 && head->paths < MAX_OPEN;
 }

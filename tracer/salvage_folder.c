@@ -33,13 +33,31 @@ static void name_events(writing *to, const saved_file *file, const char *prefix)
 static void enable_path(writing *to) {
     static const uint8_t widths[] = { 4, 4, 4, 4, 8, 8 };
     if (dspec_layout_enable(&to->layout, &to->schema, widths, sizeof widths, &to->epid_of_path) != DSPEC_OK) return;
-    dspec_names_event(&to->names, "undecided_path");
+    dspec_names_event(&to->names, "dspec_undecided");
     dspec_names_field(&to->names, "dspec_path", DSPEC_KIND_UNSIGNED);
     dspec_names_field(&to->names, "lane", DSPEC_KIND_UNSIGNED);
     dspec_names_field(&to->names, "records", DSPEC_KIND_UNSIGNED);
     dspec_names_field(&to->names, "parked", DSPEC_KIND_UNSIGNED);
     dspec_names_field(&to->names, "key_high", DSPEC_KIND_UNSIGNED);
     dspec_names_field(&to->names, "key_low", DSPEC_KIND_UNSIGNED);
+}
+
+/* Why a path is in this trace, by the numbers of the tracer's own reasons: it was open, or parked. */
+enum { IS_PARKED = DSPEC_WHY_OWN, WHYS };
+static const char *const why_texts[WHYS] = { "kept", "failed", "slow", "asked", "sampled", "crash", "undecided", "signal", "key", "parked" };
+static const size_t why_count = WHYS;
+static const dspec_labels whys = { why_texts, &why_count };
+
+/* The event by which readers know a path, as a tracer's trace has it. */
+static void enable_end(writing *to) {
+    static const uint8_t widths[] = { 4, 4, 4, 4, 4, 8, 8, 8 };
+    static const char *const fields[] = { "dspec_path", "thread", "by", "cut", "why", "begun", "key_high", "key_low" };
+    if (dspec_layout_enable(&to->layout, &to->schema, widths, sizeof widths, &to->epid_of_end) != DSPEC_OK) return;
+    dspec_names_event(&to->names, "dspec_kept");
+    for (size_t i = 0; i < sizeof widths; i++) {
+        dspec_names_field(&to->names, fields[i], DSPEC_KIND_UNSIGNED);
+        if (strcmp(fields[i], "why") == 0) dspec_names_labels(&to->names, &whys);
+    }
 }
 
 /* ---- Its beginning. ---- */
@@ -65,6 +83,7 @@ const char *writing_begin(writing *to, const saved_file *file, const char *folde
     if (!identify_as(&identity, file->head)) return strerror(errno);
     name_events(to, file, is_open ? "undecided_" : "");
     if (is_open) enable_path(to);
+    if (is_open) enable_end(to);
     snprintf(path, sizeof path, "%.4000s/%s", folder, to->name);
     to->is_begun = dspec_folder_begin(&to->folder, path, &to->schema, file->head->lanes + 1, &identity, &to->names);
     return to->is_begun ? NULL : dspec_folder_why(&to->folder);
@@ -87,10 +106,6 @@ void writing_kept(writing *to, found_batch *batch, uint64_t without) {
     dspec_folder_take(&to->folder, &to->layout, &batch->batch); /* what it loses is told at its end */
 }
 
-void salvage_put(uint8_t *at, uint64_t number, size_t width) {
-    for (size_t i = 0; i < width; i++) at[i] = (uint8_t)(number >> 8 * i);
-}
-
 /* The bytes of the event that tells of an open path: a multiple of 8, so that records after it are as they were. */
 enum { EVENT_BYTES = 48 };
 
@@ -103,34 +118,81 @@ static uint8_t *with_event(const writing *to, const found_batch *batch) {
         free(bytes);
         return NULL;
     }
-    salvage_put(bytes, to->epid_of_path, 4);
-    salvage_put(bytes + 4, first.stamp, 8);
-    salvage_put(bytes + 12, first.values[0], 4);
-    salvage_put(bytes + 16, batch->batch.cpu, 4);
-    salvage_put(bytes + 20, batch->records, 4);
-    salvage_put(bytes + 24, batch->kind == FOUND_PARKED, 4);
-    salvage_put(bytes + 28, 0, 4);
-    salvage_put(bytes + 32, batch->key[0], 8);
-    salvage_put(bytes + 40, batch->key[1], 8);
+    number_put(bytes, to->epid_of_path, 4);
+    number_put(bytes + 4, first.stamp, 8);
+    number_put(bytes + 12, first.values[0], 4);
+    number_put(bytes + 16, batch->batch.cpu, 4);
+    number_put(bytes + 20, batch->records, 4);
+    number_put(bytes + 24, batch->kind == FOUND_PARKED, 4);
+    number_put(bytes + 28, 0, 4);
+    number_put(bytes + 32, batch->key[0], 8);
+    number_put(bytes + 40, batch->key[1], 8);
     memcpy(bytes + EVENT_BYTES, batch->batch.bytes, batch->batch.len);
     return bytes;
 }
 
-bool writing_path(writing *to, const found_batch *batch) {
+/* Writes a batch in which one event is no record of the run's. */
+static void write_counted(writing *to, const dspec_batch *batch) {
     const uint64_t before = to->folder.parts[0].records;
-    dspec_batch all = batch->batch;
-    uint8_t *bytes = NULL;
-    if (to->epid_of_path != 0) {
-        bytes = with_event(to, batch);
-        if (bytes == NULL) return false;
-        all.bytes = bytes;
-        all.len += EVENT_BYTES;
-    }
-    dspec_folder_take(&to->folder, &to->layout, &all);
-    free(bytes);
-    if (to->epid_of_path == 0) return true;
+    dspec_folder_take(&to->folder, &to->layout, batch);
     if (to->folder.parts[0].records > before) to->path_events++;
     else to->lost_events++;
+}
+
+/* Writes the event that ends the path whose records were written last, where it is due. */
+static void end_path(writing *to) {
+    const path_end *end = &to->end;
+    uint8_t bytes[BYTES_OF_PATH];
+    const dspec_batch batch = { bytes, sizeof bytes, 0, end->lane };
+    if (!end->is_due || to->epid_of_end == 0) return;
+    number_put(bytes, to->epid_of_end, 4);
+    number_put(bytes + 4, end->at, 8);
+    number_put(bytes + 12, end->number, 4);
+    number_put(bytes + 16, end->thread, 4);
+    number_put(bytes + 20, 0, 8);
+    number_put(bytes + 28, end->is_parked ? IS_PARKED : DSPEC_WHY_UNDECIDED, 4);
+    number_put(bytes + 32, end->begun, 8);
+    number_put(bytes + 40, end->key[0], 8);
+    number_put(bytes + 48, end->key[1], 8);
+    to->end.is_due = false;
+    write_counted(to, &batch);
+}
+
+/* Whether a batch has more of the path whose records were written last. */
+static bool goes_on(const path_end *end, const found_batch *batch) {
+    return end->is_due && !end->is_parked && batch->kind == FOUND_OPEN && end->lane == batch->batch.cpu && end->place == batch->place;
+}
+
+/* Notes the end of a batch's path: it has the stamp of the last record. */
+static void note_end(writing *to, const found_batch *batch) {
+    path_end end = { .is_due = true, .lane = batch->batch.cpu, .place = batch->place, .thread = batch->thread, .is_parked = batch->kind == FOUND_PARKED, .key = { batch->key[0], batch->key[1] } };
+    dspec_record record;
+    size_t at = 0;
+    bool is_first = !goes_on(&to->end, batch);
+    if (!is_first) end.begun = to->end.begun;
+    for (; dspec_read(&to->layout, batch->batch.bytes, batch->batch.len, &at, &record) == DSPEC_READ; is_first = false) {
+        if (is_first) end.begun = record.stamp;
+        end.at = record.stamp;
+        end.number = (uint32_t)record.values[0];
+    }
+    to->end = end;
+}
+
+bool writing_path(writing *to, const found_batch *batch) {
+    dspec_batch all = batch->batch;
+    uint8_t *bytes = NULL;
+    if (!goes_on(&to->end, batch)) end_path(to);
+    note_end(to, batch);
+    if (to->epid_of_path == 0) {
+        dspec_folder_take(&to->folder, &to->layout, &all);
+        return true;
+    }
+    bytes = with_event(to, batch);
+    if (bytes == NULL) return false;
+    all.bytes = bytes;
+    all.len += EVENT_BYTES;
+    write_counted(to, &all);
+    free(bytes);
     return true;
 }
 
@@ -181,9 +243,13 @@ static int sync_all(const char *folder, const char *name) {
 }
 
 const char *writing_end(writing *to, const char *folder, uint64_t *records, uint64_t *lost) {
-    const bool is_whole = !to->is_begun || dspec_folder_end(&to->folder);
     const dspec_loss *first = &to->folder.first;
+    bool is_whole = true;
     int code = 0;
+    if (to->is_begun) {
+        end_path(to);
+        is_whole = dspec_folder_end(&to->folder);
+    }
     *records = to->is_begun ? to->folder.parts[0].records - to->path_events : 0;
     *lost = to->is_begun ? first->records - to->lost_events : 0;
     dspec_schema_drop(&to->schema);

@@ -165,12 +165,12 @@ static void send_parked(const struct reading *reading) {
     if (reading->in_call) send_word(reading, TELLS_TORN);
     for (size_t place = 0; place < places; place++) {
         struct told told = { .what = FOUND_PARKED };
-        if (dspec_parking_at(ring, place, &block) != DSPEC_OK || is_open(reading->lane, block.stamp)) continue;
+        if (dspec_parking_at(ring, place, &block) != DSPEC_OK || is_open(reading->lane, block.stamp >> 32)) continue;
         if (dspec_parking_take(ring, place, reading->bytes, reading->size, &block) != DSPEC_OK) give_up();
         told.length = block.length;
         told.key[0] = block.key_high;
         told.key[1] = block.key_low;
-        told.path = block.stamp;
+        told.path = block.stamp >> 32;
         send_bytes(reading, &told, reading->bytes, block.length);
     }
 }
@@ -308,8 +308,9 @@ static bool is_told(saved_file *file, const struct told *told, dspec_batch *batc
 static bool hand_out(const saved_file *file, const struct told *told, const dspec_batch *batch, found_call get, void *to) {
     const open_path *opened = &file->tracer->lanes[batch->cpu].open[told->place];
     size_t at = 0;
-    found_batch found = { (found_kind)told->what, told->place, *batch, 0, { told->key[0], told->key[1] } };
+    found_batch found = { (found_kind)told->what, told->place, *batch, 0, { told->key[0], told->key[1] }, told->path, file->tracer->lanes[batch->cpu].before, 0 };
     if (told->what == FOUND_OPEN && opened->key_state != NO_KEY) memcpy(found.key, opened->key, sizeof found.key);
+    if (told->what == FOUND_OPEN) found.thread = opened->thread;
     found.records = dspec_folder_skips_(&file->layout, batch, &at, UINT64_MAX);
     return get(to, &found);
 }

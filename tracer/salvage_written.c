@@ -93,7 +93,7 @@ uint64_t written_records(const saved_file *saved, const char *file, const found_
     int run;
     *unsure = 0;
     if (folder->kept > DSPEC_FOLDER_MOST || folder->oldest >= DSPEC_FOLDER_MOST) return UINT64_MAX;
-    records = survive_brought(folder) - saved->tracer->lanes[cpu].before;
+    records = survive_brought(folder) - batch->before;
     if (folder->writing.size == 0 || folder->writing_cpu != cpu || folder->writing.file >= DSPEC_CTF_MAX_FILES || folder->kept == 0) return records;
     records -= newest_of(folder)->records - folder->writing_records;
     run = find_run(saved, file);

@@ -31,7 +31,7 @@ dspec_status lane_start(struct lane *lane, const dspec_tracer_options *options, 
     if (status == DSPEC_OK) status = dspec_cpu_of(&lane->session, 0, &lane->front.cpu);
     if (status == DSPEC_OK) status = dspec_paths_new(&lane->paths);
     if (status == DSPEC_OK && options->park_bytes > 0 && lane->number < lane->tracer->count) status = park_begin(lane, options->park_bytes);
-    if (status == DSPEC_OK && options->survive) find_buffers(lane);
+    if (status == DSPEC_OK && lane->tracer->saved != NULL) find_buffers(lane);
     return status;
 }
 
@@ -103,14 +103,15 @@ static void brings(body *tracer, struct lane *lane) {
     __atomic_store_n(&lane->bringing, NOT_OUT, __ATOMIC_RELEASE);
 }
 
-/* Whether the disk keeps room for the packets of what was taken; else that stays in the memory, where dspec_salvage finds it. With a bound the oldest folder goes for it. */
+bool kept_waits_for_disk(const body *tracer) { return tracer->options.survive && tracer->folder.most_folders == 0; }
+
+/* Whether the disk keeps room for the packets of what was taken; else that stays in the memory, where dspec_salvage finds it. */
 static bool has_room(body *tracer, const struct lane *lane) {
-    enum { MORE_PACKETS = 3 };
     int file;
-    if (tracer->saved == NULL || lane->out.len == 0 || tracer->folder.most_folders > 0) return true;
+    if (!kept_waits_for_disk(tracer) || lane->out.len == 0) return true;
     file = dspec_folder_file_(&tracer->folder, lane->number, 0);
     if (file < 0) return true; /* its write tells why not */
-    return dspec_folder_keeps_(file, tracer->folder.sizes[lane->number][0], (lane->out.len / DSPEC_CTF_FILLED_ + MORE_PACKETS) * DSPEC_FOLDER_PACKET) == 0;
+    return dspec_folder_keeps_(file, tracer->folder.sizes[lane->number][0], (lane->out.len / DSPEC_CTF_FILLED_ + LAST_PACKETS) * DSPEC_FOLDER_PACKET) == 0;
 }
 
 void lane_write(body *tracer, struct lane *lane) {

@@ -104,6 +104,7 @@ static void free_body(body *tracer) {
     for (uint32_t i = 0; i <= tracer->count; i++) park_drop(&tracer->lanes[i]);
     keys_drop(tracer->keys);
     keeper_drop(tracer->keeper);
+    taken_drop(tracer);
     if (tracer->saved != NULL) survive_free(tracer);
     else free(tracer);
 }
@@ -129,8 +130,9 @@ static body *room_for(const dspec_tracer_options *options) {
 static bool begin_parking(body *tracer) {
     tracer->keys = keys_new(tracer->options.remember_ms);
     tracer->keeper = keeper_new(tracer);
+    if (!taken_begin(tracer)) return false;
     for (uint32_t i = 0; i < tracer->count; i++)
-        if (!park_notes_begin(&tracer->lanes[i], tracer->options.park_bytes)) return false;
+        if (!park_notes_begin(&tracer->lanes[i], tracer->options.park_bytes, tracer->options.specsize)) return false;
     return tracer->keys != NULL && tracer->keeper != NULL;
 }
 
@@ -154,11 +156,19 @@ static body *body_in(body *tracer, const dspec_tracer_options *options, size_t e
     return NULL;
 }
 
+/* Memory for a tracer, which a debugger finds where there is such. */
+static body *memory_for(dspec_tracer *tracer, const char *folder, const dspec_tracer_options *options, const dspec_enabling *const *events) {
+    body *run;
+    if (options->survive) return survive_make(folder, options, events, tracer->why, sizeof tracer->why);
+    run = survive_in_process(folder, options, events, tracer->why, sizeof tracer->why);
+    return run == NULL && tracer->why[0] == 0 ? room_for(options) : run;
+}
+
 /* A tracer that isn't up; NULL, and tracer->why says why not. */
 static body *body_new(dspec_tracer *tracer, const char *folder, const dspec_tracer_options *options, const dspec_enabling *const *events) {
-    body *run = options->survive ? survive_make(folder, options, events, tracer->why, sizeof tracer->why) : room_for(options);
+    body *run = memory_for(tracer, folder, options, events);
     if (run != NULL) run = body_in(run, options, events_of(events));
-    if (run == NULL && (!options->survive || tracer->why[0] == 0)) fail(tracer, "the tracer", dspec_status_text(DSPEC_NO_MEMORY));
+    if (run == NULL && tracer->why[0] == 0) fail(tracer, "the tracer", dspec_status_text(DSPEC_NO_MEMORY));
     return run;
 }
 
@@ -176,9 +186,7 @@ static void set(uint32_t *option, uint32_t value) {
     if (*option == 0) *option = value;
 }
 
-/* A record of the most fields has so many bytes at most. */
-enum { MOST_OF_A_RECORD = 80 };
-/* And a ring of parked paths. */
+/* The most bytes of a ring of parked paths. */
 #define MOST_PARKED ((uint64_t)1 << 32)
 
 /* The same of those of parked paths. */
@@ -505,7 +513,7 @@ bool dspec_tracer_flush(dspec_tracer *tracer, uint32_t timeout_ms) {
     __atomic_fetch_add(&run->flushing, 1, __ATOMIC_SEQ_CST);
     ticket = __atomic_add_fetch(&run->asked, 1, __ATOMIC_SEQ_CST);
     consumer_wakes(run);
-    is_there = consumer_served(run, ticket, timeout_ms) && !LOAD(&run->misses) && !lanes_wait_for_disk(run);
+    is_there = consumer_served(run, ticket, timeout_ms) && !LOAD(&run->misses) && !lanes_wait_for_disk(run) && !keeper_waits_for_disk(run);
     __atomic_fetch_sub(&run->flushing, 1, __ATOMIC_SEQ_CST);
     return is_there;
 }

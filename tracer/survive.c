@@ -17,6 +17,8 @@ static uint64_t pages(uint64_t bytes) { return (bytes + PAGE - 1) / PAGE * PAGE;
 
 uint64_t saved_body_size(uint32_t lanes) { return pages(sizeof(body) + (lanes + 1) * sizeof(struct lane)); }
 
+uint64_t saved_taken_size(uint32_t bufsize, uint64_t park_bytes) { return park_bytes > 0 ? pages(bufsize + 2 * (uint64_t)BYTES_OF_PATH) : 0; }
+
 /* FNV-1a of all before the sum but the magic. */
 uint64_t saved_sum(const saved_head *head) {
     const uint8_t *bytes = (const uint8_t *)head;
@@ -56,11 +58,12 @@ static dspec_status bytes_of(const dspec_tracer_options *options, const dspec_en
     return status;
 }
 
-/* An address that is free, and the file there; NULL: there is none. */
+/* An address that is free, and the file there, or memory of this process alone by -1; NULL: there is none. */
 static void *map_at_a_place(int file, uint64_t size) {
+    const int flags = MAP_FIXED_NOREPLACE | (file >= 0 ? MAP_SHARED : MAP_PRIVATE | MAP_ANONYMOUS);
     for (uint64_t place = 0; place < SURVIVE_PLACES; place++) {
         void *wanted = (void *)(uintptr_t)(SURVIVE_FIRST + place * SURVIVE_APART);
-        void *at = mmap(wanted, size, PROT_READ | PROT_WRITE, MAP_SHARED | MAP_FIXED_NOREPLACE, file, 0);
+        void *at = mmap(wanted, size, PROT_READ | PROT_WRITE, flags, file, 0);
         if (at == wanted) return at;
         if (at != MAP_FAILED) munmap(at, size);
     }
@@ -78,13 +81,17 @@ static void unmake(memory_file *file, const char *folder) {
 static void begin_head(saved_head *head, const dspec_tracer_options *options, const memory_file *file, const char *folder, uint64_t size) {
     const uint64_t head_size = pages(sizeof *head), body_size = saved_body_size(options->lanes);
     *head = (saved_head){ .version = SURVIVE_VERSION, .head_size = (uint32_t)head_size, .body_size = (uint32_t)body_size, .lane_size = sizeof(struct lane), .address = (uintptr_t)head, .size = size,
-                          .body_at = head_size, .memory_at = head_size + body_size, .lanes = options->lanes, .paths = options->paths, .bufsize = options->bufsize,
+                          .body_at = head_size, .memory_at = head_size + body_size + saved_taken_size(options->bufsize, options->park_bytes), .lanes = options->lanes, .paths = options->paths, .bufsize = options->bufsize,
                           .specsize = options->specsize, .park_bytes = options->park_bytes, .max_folders = options->max_folders, .device = file->device, .inode = file->inode };
     snprintf(head->build, sizeof head->build, "%s", dspec_build());
     snprintf(head->folder, sizeof head->folder, "%s", folder);
 }
 
-/* The tracer in a file that was made; NULL: none of the addresses that it may have is free. */
+/* A search for leaks looks here too, for what the tracer has of malloc's. */
+__attribute__((weak)) void __lsan_register_root_region(const void *at, size_t size);
+__attribute__((weak)) void __lsan_unregister_root_region(const void *at, size_t size);
+
+/* The tracer in a file that was made, or in memory of this process alone; NULL: none of the addresses that it may have is free. */
 static body *body_in_file(const memory_file *file, const dspec_tracer_options *options, const char *folder, uint64_t sessions, uint64_t size) {
     const uint64_t memory_at = size - pages(sessions);
     saved_head *head = map_at_a_place(file->at, size);
@@ -95,11 +102,17 @@ static body *body_in_file(const memory_file *file, const dspec_tracer_options *o
         return NULL;
     }
     begin_head(head, options, file, folder, size);
+    if (__lsan_register_root_region != NULL) __lsan_register_root_region(head, size);
     tracer = (body *)(void *)((char *)head + head->body_at);
     tracer->saved = head;
     tracer->memory = (char *)head + head->memory_at;
     tracer->file = *file;
     return tracer;
+}
+
+/* So many bytes the head, the tracer and the sessions have. */
+static uint64_t size_of_all(const dspec_tracer_options *options, uint64_t sessions) {
+    return pages(sizeof(saved_head)) + saved_body_size(options->lanes) + saved_taken_size(options->bufsize, options->park_bytes) + pages(sessions);
 }
 
 body *survive_make(const char *folder, const dspec_tracer_options *options, const dspec_enabling *const *events, char *why, size_t size) {
@@ -110,7 +123,7 @@ body *survive_make(const char *folder, const dspec_tracer_options *options, cons
     dspec_status status = bytes_of(options, events, &sessions);
     int code;
     if (status != DSPEC_OK) return fail(why, size, "the session", dspec_status_text(status));
-    all = pages(sizeof(saved_head)) + saved_body_size(options->lanes) + pages(sessions);
+    all = size_of_all(options, sessions);
     if (all > SURVIVE_APART) return fail(why, size, "the memory", dspec_status_text(DSPEC_NO_MEMORY));
     code = memory_file_place(&file, folder, whole);
     if (code != 0) {
@@ -127,6 +140,32 @@ body *survive_make(const char *folder, const dspec_tracer_options *options, cons
     unmake(&file, whole);
     if (code != 0 && snprintf(why, size, "%s: %s, for %llu bytes", file.name, code == EFBIG ? "RLIMIT_FSIZE (ulimit -f) is too low" : strerror(code), (unsigned long long)all) > 0) return NULL;
     return fail(why, size, file.name, "none of the addresses that it may have is free");
+}
+
+/* Whether a sanitizer has this process that knows of no memory at these addresses. */
+__attribute__((weak)) void __tsan_init(void);
+__attribute__((weak)) void __msan_init(void);
+static bool is_sanitized(void) { return __tsan_init != NULL || __msan_init != NULL; }
+
+/* A folder's whole path: whether it fits. */
+static bool whole_path(const char *folder, char whole[4096]) {
+    char here[4096] = "";
+    int len;
+    if (folder[0] != '/' && getcwd(here, sizeof here) == NULL) return false;
+    len = snprintf(whole, 4096, "%s%s%s", here, here[0] != 0 ? "/" : "", folder);
+    return len > 0 && len < 4096;
+}
+
+body *survive_in_process(const char *folder, const dspec_tracer_options *options, const dspec_enabling *const *events, char *why, size_t size) {
+    const memory_file none = { .at = -1, .parent = -1 };
+    char whole[4096];
+    uint64_t sessions = 0;
+    dspec_status status;
+    if (is_sanitized() || !whole_path(folder, whole)) return NULL;
+    status = bytes_of(options, events, &sessions);
+    if (status != DSPEC_OK) return fail(why, size, "the session", dspec_status_text(status));
+    if (size_of_all(options, sessions) > SURVIVE_APART) return NULL;
+    return body_in_file(&none, options, whole, sessions, size_of_all(options, sessions));
 }
 
 /* How many labels of the name at a place the head tells after the bytes that it has: all, or where they have no room none. */
@@ -210,7 +249,7 @@ static bool is_settled(body *tracer) {
         for (uint32_t k = 0; k < MAX_OPEN; k++) is = is && LOAD(&lane->open[k].mark) == 0;
         is = is && park_left(&lane->parked) == 0;
     }
-    return is;
+    return is && LOAD(&tracer->taken.state) == NOTHING_TAKEN;
 }
 
 void survive_dies(body *tracer) {
@@ -224,6 +263,7 @@ void survive_free(body *tracer) {
     memory_file file = tracer->file;
     if (file.at >= 0) unmake(&file, head->folder);
     dspec_memory_end(tracer->memory);
+    if (__lsan_unregister_root_region != NULL) __lsan_unregister_root_region(head, head->size);
     munmap(head, head->size);
 }
 

@@ -10,7 +10,7 @@
 /* The addresses that a file may have: so far apart, from the first on. */
 #define SURVIVE_FIRST UINT64_C(0x510000000000)
 #define SURVIVE_APART UINT64_C(0x1000000000)
-enum { SURVIVE_PLACES = 64, SURVIVE_VERSION = 8, SURVIVE_LABELS = 65536 };
+enum { SURVIVE_PLACES = 64, SURVIVE_VERSION = 9, SURVIVE_LABELS = 65536 };
 #define SURVIVE_MAGIC UINT64_C(0x3176697673706564)
 
 /* An event of the trace: its name and its fields', and the widths and kinds of their words, of which a text has several. */
@@ -51,11 +51,15 @@ typedef struct saved_head {
 } saved_head;
 
 uint64_t saved_sum(const saved_head *head);
-/* The bytes of the tracer with its lanes. */
+/* The bytes of the tracer with its lanes; and after them, of parked paths that are on their way to the folder. */
 uint64_t saved_body_size(uint32_t lanes);
+uint64_t saved_taken_size(uint32_t bufsize, uint64_t park_bytes);
 
 /* Makes the file of a tracer that is about to start, and the tracer in it; NULL: why says why not, and nothing is left. Where it isn't NULL, why has what the program should know, or nothing. */
 body *survive_make(const char *folder, const dspec_tracer_options *options, const dspec_enabling *const *events, char *why, size_t size);
+/* A tracer without a file, in memory of this process that is laid out as a file is: so a debugger finds it, and dspec_salvage reads a copy of it. NULL: there is no such memory, or why says
+ * why the tracer can't be. */
+body *survive_in_process(const char *folder, const dspec_tracer_options *options, const dspec_enabling *const *events, char *why, size_t size);
 /* Tells whose trace it is, before its first record. */
 void survive_tell(body *tracer, const struct whose *whose, const dspec_names *names);
 /* Tells anew of which clock the stamps are. */

@@ -238,7 +238,7 @@ static void (*way_of(const char *name))(void) {
 static int steps(const char *name, unsigned number) {
     void (*run)(void) = way_of(name);
     if (run == NULL) return 2;
-    for (int i = 0; i < 50; i++) run();
+    for (int i = 0; i < 100; i++) run();
     usleep(50000); /* what the consumer has to do is done */
     for (int i = 0; i < 5; i++) run();
     __asm__ volatile("int3");

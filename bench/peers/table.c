@@ -31,7 +31,7 @@ static atomic_uint running = 1;
 
 static uint32_t rounded(uint32_t place, uint32_t align) { return (place + align - 1) & ~(align - 1); }
 
-/* The layout of fields of these widths, behind a number of 4 bytes. */
+/* The layout of fields of these widths, after a number of 4 bytes. */
 static struct layout laid_out(const uint8_t *widths, uint32_t count) {
     struct layout made = {.align = 4, .count = count};
     uint32_t end = 4;

@@ -24,7 +24,7 @@ extern "C" {
 #define DSPEC_TRACER_NO_PLT_
 #endif
 
-/* Of a lane's state: six bits, and above them how many paths are on it, and 1 more where it is a thread's own (tracer/body.h). */
+/* Of a lane's state: six bits; three more, which say who keeps it between paths; and above them how many paths are on it, and 1 more where it is a thread's own (tracer/body.h). */
 #define DSPEC_TRACER_HELD_ 1u
 #define DSPEC_TRACER_LOOK_ 59u /* with one of these a thread doesn't get into a call on its own lane without a closer look */
 
@@ -47,6 +47,7 @@ typedef struct dspec_tracer_seat {
     uint32_t plain;          /* the same; DSPEC_TRACER_NONE_ where the thread has a lane of its own, and in the middle of a record that is in no path */
     uint16_t open;           /* paths that it began on its own lane and hasn't ended */
     bool busy;               /* in the middle of the tracer, where a signal's handler may come */
+    uint16_t kept;           /* where it keeps the lane that it had last between its paths, the state of that while nobody wants it; else 0 */
 } dspec_tracer_seat;
 
 /* No tracer has this run. One that isn't started has 0. */
@@ -57,9 +58,9 @@ typedef struct dspec_tracer_seat {
 
 /* A number that no other thread has or had, and not 0. A handler may look at it: it is where the thread's memory is, and is never made at its first use. That room is scarce where a library is loaded
  * late. The number in the name goes up with each change of what is laid out here or in dspec_tracer.h, so that a program which was compiled with another one finds no library. */
-extern __thread uint32_t dspec_tracer_token_5 __attribute__((tls_model("initial-exec")));
+extern __thread uint32_t dspec_tracer_token_6 __attribute__((tls_model("initial-exec")));
 /* The number of the path to which the thread recorded last, in the upper half. */
-extern __thread uint64_t dspec_tracer_recent_5 __attribute__((tls_model("initial-exec")));
+extern __thread uint64_t dspec_tracer_recent_6 __attribute__((tls_model("initial-exec")));
 
 /* A record that isn't made in its caller: the first of a path, one on another thread, or one that somebody is in the way of. */
 dspec_status dspec_path_put_slowly_(dspec_path *path, const dspec_event *event, const uint64_t *words, size_t n) DSPEC_NOEXCEPT;
@@ -87,7 +88,7 @@ DSPEC_INLINE char *dspec_tracer_thread_(void) DSPEC_NOEXCEPT {
 #if defined(__x86_64__)
     __asm__("movq %%fs:0, %0" : "=r"(at));
 #else
-    at = DSPEC_AS(char *, DSPEC_AS(void *, &dspec_tracer_token_5));
+    at = DSPEC_AS(char *, DSPEC_AS(void *, &dspec_tracer_token_6));
 #endif
     return at;
 }
@@ -97,7 +98,7 @@ DSPEC_INLINE dspec_tracer_seat *dspec_tracer_seat_of_(const dspec_tracer *tracer
 }
 
 /* Whether a path is open on its thread's own lane, and this is its thread. */
-DSPEC_INLINE bool dspec_path_is_here_(const dspec_path *path) DSPEC_NOEXCEPT { return path->token == dspec_tracer_token_5; }
+DSPEC_INLINE bool dspec_path_is_here_(const dspec_path *path) DSPEC_NOEXCEPT { return path->token == dspec_tracer_token_6; }
 
 /* Whether the thread's record that is in no path can be tried on the lane that it had last. */
 DSPEC_INLINE bool dspec_tracer_is_plain_(const dspec_tracer *tracer) DSPEC_NOEXCEPT {
@@ -189,26 +190,27 @@ DSPEC_TRACER_INTO_CALLER_ bool dspec_path_try_(dspec_path *path, const dspec_eve
     if (!DSPEC_TRACER_LIKELY_(dspec_tracer_enter_(lane))) return false;
     now = dspec_tracer_stamp_(&lane->clock);
     mark = path->mark;
-    __atomic_store_n(&dspec_tracer_recent_5, mark, __ATOMIC_RELAXED);
+    __atomic_store_n(&dspec_tracer_recent_6, mark, __ATOMIC_RELAXED);
     *status = dspec_tracer_put_in_(&lane->cpu, path->id, dspec_tracer_claim_(event, lane->slot), now, words[0] | mark, words, n);
     if (!DSPEC_TRACER_LIKELY_(*status == DSPEC_OK)) is_made = !dspec_path_turn(path, event, *status);
     dspec_tracer_leave_(lane);
     return is_made;
 }
 
-/* Of no path, on the lane that the thread had last, where nobody is on that. A handler that comes in between finds that `plain` is no run. */
+/* Of no path, on the lane that the thread had last, where nobody else is on that. A handler that comes in between finds that `plain` is no run; one that comes before may change which lane that is. */
 DSPEC_TRACER_INTO_CALLER_ bool dspec_tracer_try_(dspec_tracer *tracer, const dspec_event *event, const uint64_t *words, size_t n, dspec_status *status) DSPEC_NOEXCEPT {
     dspec_tracer_seat *seat = dspec_tracer_seat_of_(tracer);
     dspec_tracer_lane *lane;
     const uint32_t run = __atomic_load_n(&tracer->run, __ATOMIC_RELAXED);
-    uint32_t state = 0;
+    uint32_t state;
     bool is_in;
     if (!DSPEC_TRACER_LIKELY_(seat->plain == run)) return false;
-    lane = seat->last;
     dspec_tracer_reach_();
     __atomic_store_n(&seat->plain, DSPEC_TRACER_NONE_, __ATOMIC_RELAXED);
     __atomic_signal_fence(__ATOMIC_SEQ_CST);
-    is_in = __atomic_compare_exchange_n(&lane->state, &state, DSPEC_TRACER_HELD_, false, __ATOMIC_SEQ_CST, __ATOMIC_SEQ_CST);
+    lane = seat->last;
+    state = seat->kept;
+    is_in = __atomic_compare_exchange_n(&lane->state, &state, state | DSPEC_TRACER_HELD_, false, __ATOMIC_SEQ_CST, __ATOMIC_SEQ_CST);
     if (DSPEC_TRACER_LIKELY_(is_in)) {
         const uint64_t now = dspec_tracer_stamp_(&lane->clock);
         *status = dspec_tracer_fill_(lane, dspec_tracer_claim_(event, lane->slot), now, words, n);

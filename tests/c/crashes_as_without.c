@@ -237,7 +237,7 @@ static void be_sent(bool suspends) {
     child = sender();
     if (suspends) {
         sigsuspend(&before);
-        say_mask("behind sigsuspend");
+        say_mask("after sigsuspend");
     } else {
         got = read(to_parent[0], &byte, 1);
         say("read: %zd, %s\n", got, got < 0 ? strerror(errno) : "a byte");
@@ -306,7 +306,7 @@ static void *live(void *path_of_tracer) {
         pthread_sigmask(SIG_SETMASK, &all, NULL);
     }
     if (path != NULL && step_in(path, (uint32_t)strtoul(words[0], NULL, 10)) != DSPEC_OK) _exit(8);
-    if (sigsetjmp(back, is(handler, "jumps")) != 0) say_mask("behind the jump");
+    if (sigsetjmp(back, is(handler, "jumps")) != 0) say_mask("after the jump");
     if (times < TIMES) bring();
     say("goes on, errno %d\n", is(cause, "fault") || is(cause, "raise") || is(cause, "kill") ? errno : 0);
     say_mask("at the end");

@@ -20,7 +20,7 @@ static dspec_identity identity = {
     .host = { "here", 4 }, .name = { "server", 6 },
 };
 
-/* Bytes, one behind another. */
+/* Bytes, one after another. */
 typedef struct bytes {
     uint8_t of[8192];
     size_t len;
@@ -41,7 +41,7 @@ static bytes text(const uint64_t *stamps, size_t count) {
     return made;
 }
 
-/* The packet of those of CPU 3, as the format has it: zeros behind its events, up to 1,024 bytes. */
+/* The packet of those of CPU 3, as the format has it: zeros after its events, up to 1,024 bytes. */
 static void packet(bytes *to, uint64_t begin, uint64_t end, uint64_t missed, const uint64_t *stamps, size_t count) {
     uint64_t bits = 8 * (68 + 16 * count);
     bytes events = text(stamps, count);

@@ -44,7 +44,7 @@ static void whole_to_its_end(const std::string &folder) {
     CHECK(!trace.close(none) && trace.last().status == DSPEC_BAD_HANDLE);
     dspec::closed closed = session.finish();
     CHECK(closed.report(0).specdropped == 3 && trace.close(closed));
-    /* Two events of 4 + 8 + 4 bytes, and behind them a packet that tells three as missed. */
+    /* Two events of 4 + 8 + 4 bytes, and after them a packet that tells three as missed. */
     const std::string bytes = read(folder + "/cpu_0_0");
     CHECK(read(folder + "/metadata").find("procname = \"cpp\"") != std::string::npos);
     CHECK(bytes.size() > 64 + 32 && bytes.find(std::string("\3\0\0\0\0\0\0\0\0\0\0\0", 12), 64) != std::string::npos);

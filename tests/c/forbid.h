@@ -1,4 +1,4 @@
-/* forbid.h: has the system refuse membarrier(2), as a program's filter of system calls may behind its start. */
+/* forbid.h: has the system refuse membarrier(2), as a program's filter of system calls may after its start. */
 #ifndef C_FORBID_H
 #define C_FORBID_H
 

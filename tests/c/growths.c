@@ -166,7 +166,7 @@ static size_t put_all(uint8_t *room, size_t size) {
 }
 
 /* Batches for which there is room: from there on no call takes memory. The last has as many records as so many bytes may have, as many files as a CPU
- * may have, and behind them a run of several packets; each has what tells of its drops too. */
+ * may have, and after them a run of several packets; each has what tells of its drops too. */
 static void trace_in_room(void) {
     enum { SMALLEST = 12, MANY = 400 };
     static const dspec_ctf nothing = DSPEC_EMPTY;

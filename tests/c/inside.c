@@ -16,6 +16,7 @@ enum { LANES = 3, PATHS = 2, OTHERS = 2 };
 static body *of;
 static dspec_tracer_seat *me;
 static uint32_t barriers, naps;
+static uint8_t *used_at_barrier; /* the flag that its thread sets while another has all processors come to an order */
 static uint64_t stands_at; /* the clock, in microseconds; 0: it goes */
 static bool refuses_barriers;
 
@@ -31,6 +32,7 @@ long __wrap_syscall(long number, ...) {
     naps += number == SYS_futex && words[1] == 128 /* FUTEX_WAIT_PRIVATE */;
     if (number == SYS_membarrier) {
         barriers++;
+        if (used_at_barrier != NULL) *used_at_barrier = IN_USE;
         errno = EPERM;
         if (refuses_barriers) return -1;
     }
@@ -51,6 +53,8 @@ static struct lane *fresh(uint32_t number, uint32_t state) {
     lane->front.state = state;
     lane->front.inside = 0;
     lane->handed = 0;
+    memset(lane->uses, FREE_FLAG, sizeof lane->uses);
+    lane->had_by = lane->in_a_row = 0;
     lane->number = number;
     lane->tracer = of;
     return lane;
@@ -67,6 +71,8 @@ static void begin(void) {
     of->late = of->waited = of->nested = 0;
     *me = (dspec_tracer_seat){ .last = &of->lanes[0].front, .run = of->run, .plain = of->run };
     dspec_here.hands_on = 0;
+    dspec_tracer_token_6 = 9;
+    used_at_barrier = NULL;
     refuses_barriers = false;
     barriers = 0;
 }
@@ -196,6 +202,138 @@ static void paths_go(void) {
     me->own = &fresh(0, 2 * USER)->front;
     lane_path_off(me, &of->lanes[0], true);
     CHECK(me->own == &of->lanes[0].front && is(&of->lanes[0], USER));
+}
+
+/* ---- A lane that is kept between paths. ---- */
+
+enum { PATHS_BEFORE = 64, FIRST_FLAG = 64 };
+
+/* A path of this thread on a lane that nobody is on. */
+static void one_path(struct lane *lane) {
+    CHECK(lane_for_path(of, me) == lane && me->own == &lane->front);
+    me->open = 1;
+    lane_path_off(me, lane, true);
+}
+
+/* The first lane is this thread's, and all others are other threads' own. */
+static struct lane *kept(void) {
+    struct lane *lane;
+    begin();
+    for (uint32_t i = 1; i < LANES; i++) fresh(i, (PATHS + 1) * USER);
+    lane = fresh(0, FIRST_FLAG + 2 * USER);
+    lane->uses[1] = RESTS;
+    me->kept = FIRST_FLAG + 2 * USER;
+    return lane;
+}
+
+static bool is_at_rest(const struct lane *lane) {
+    return is(lane, FIRST_FLAG + 2 * USER) && lane->uses[1] == RESTS && me->kept == FIRST_FLAG + 2 * USER && me->own == NULL && me->plain == me->run && me->open == 0;
+}
+
+static bool is_not_kept(const struct lane *lane) { return lane->uses[1] == FREE_FLAG && me->kept == 0; }
+
+/* So many paths in a row have a thread keep its lane, where no other was on it meanwhile, it has a flag left, no other is on it now, and there is membarrier(2). */
+static void keeps(void) {
+    struct lane *lane;
+    begin();
+    lane = fresh(0, 0);
+    for (int i = 1; i < PATHS_BEFORE; i++) one_path(lane);
+    CHECK(is(lane, 0) && is_not_kept(lane));
+    one_path(lane);
+    CHECK(is_at_rest(lane));
+    for (int why = 0; why < 3; why++) {
+        begin();
+        lane = fresh(0, 0);
+        for (int i = 1; i < PATHS_BEFORE; i++) one_path(lane);
+        if (why == 0) lane->had_by = dspec_tracer_token_6 + 1;
+        else if (why == 1) memset(lane->uses, RESTS, sizeof lane->uses);
+        else of->locked = 1;
+        one_path(lane);
+        CHECK(is(lane, 0) && me->kept == 0);
+    }
+    begin();
+    lane = fresh(0, 0);
+    lane->in_a_row = PATHS_BEFORE - 1;
+    lane->had_by = dspec_tracer_token_6;
+    CHECK(lane_for_path(of, me) == lane && lane_shared(of, 0) == lane);
+    me->open = 1;
+    lane_path_off(me, lane, true);
+    CHECK(is(lane, USER) && is_not_kept(lane));
+}
+
+/* The next path begins on it, and the last one ends, without a change of its state. What the consumer has to do there leaves it the thread's. */
+static void goes_on(void) {
+    static const uint32_t bits[] = { HELD, SERVE, IDLE, WANTED, GONE };
+    struct lane *lane = kept();
+    CHECK(lane_claim_last(me, lane) && me->own == &lane->front && me->plain == DSPEC_TRACER_NONE_ && lane->uses[1] == IN_USE && is(lane, FIRST_FLAG + 2 * USER));
+    me->open = 1;
+    lane_path_off(me, lane, true);
+    CHECK(is_at_rest(lane) && barriers == 0);
+    for (size_t i = 0; i < sizeof bits / sizeof bits[0]; i++) {
+        lane = kept();
+        lane->front.state |= bits[i];
+        CHECK(!lane_claim_last(me, lane) && lane->uses[1] == RESTS && me->own == NULL);
+        CHECK(lane_for_path(of, me) == lane && me->own == &lane->front && lane->uses[1] == IN_USE && is(lane, FIRST_FLAG + 2 * USER + bits[i]) && me->kept != 0);
+    }
+    lane = kept();
+    lane->front.state |= SHARED;
+    CHECK(lane_for_path(of, me) == lane && me->own == &lane->front && is(lane, 2 * USER | SHARED) && is_not_kept(lane));
+}
+
+/* Another thread that finds no lane free takes it over, while it isn't in use. Its thread finds that out at its next path. */
+static void taken_over(void) {
+    dspec_tracer_seat first, *mine = me;
+    struct lane *lane = kept();
+    first = *me;
+    *me = (dspec_tracer_seat){ .last = &lane->front, .run = of->run, .plain = of->run };
+    lane->front.state |= SHARED | IDLE;
+    CHECK(lane_for_path(of, me) == lane && me->own == &lane->front && me->last == &lane->front && is(lane, 2 * USER | IDLE) && barriers == 1 && lane->uses[1] == RESTS);
+    me = &first;
+    CHECK(!lane_claim_last(me, lane) && lane->uses[1] == RESTS);
+    CHECK(lane_for_path(of, me) == lane && me->own == NULL && is_not_kept(lane) && is(lane, 3 * USER | IDLE));
+    me = mine;
+}
+
+/* One that is in use stays its thread's, also where that begins to use it while the other one looks. */
+static void stays_in_use(void) {
+    for (int late = 0; late < 2; late++) {
+        struct lane *lane = kept();
+        me->kept = 0;
+        if (late == 0) lane->uses[1] = IN_USE;
+        else used_at_barrier = &lane->uses[1];
+        CHECK(lane_for_path(of, me) == lane && me->own == NULL && is(lane, FIRST_FLAG + 3 * USER) && barriers == (late == 0 ? 0u : 1u) && lane->uses[1] == IN_USE);
+    }
+}
+
+/* Who is taking it over is waited for, and not for long. Its flag stays taken then, since it may come back. */
+static void is_waited_for(void) {
+    struct lane *lane = kept();
+    uint64_t began = now();
+    lane->front.state = 2 * USER | HELD;
+    CHECK(lane_for_path(of, me) == lane && me->own == NULL && now() - began >= ENTER_US / 2 && me->kept == 0 && lane->uses[1] == RESTS && is(lane, 3 * USER | HELD));
+}
+
+/* At the thread's end, and for a record that is in no path and finds something to do, it is given back. */
+static void given_back(void) {
+    struct lane *lane = kept();
+    lanes_give_up(me);
+    CHECK(is(lane, 0) && is_not_kept(lane));
+    lane = kept();
+    CHECK(lane_claim_last(me, lane));
+    lanes_give_up(me);
+    CHECK(is(lane, USER) && is_not_kept(lane) && me->own == NULL);
+    lane = kept();
+    lane->front.state |= IDLE;
+    CHECK(lane_for_record(of, me) == lane && is(lane, IDLE) && is_not_kept(lane) && me->own == NULL);
+    lane = kept();
+    CHECK(lane_claim_last(me, lane));
+    me->open = 1;
+    lane->handed = 1;
+    lane->front.state -= USER;
+    CHECK(lane_for_path(of, me) == lane && me->own == NULL && me->open == 0 && dspec_here.hands_on > 0 && is(lane, USER) && is_not_kept(lane));
+    lane = kept();
+    dspec_here.hands_on = 1;
+    CHECK(lane_claim_last(me, lane));
 }
 
 /* The end of a path that the consumer ended: it is answered what came of that, and the lane is let go. Of two in the list the other one stays. */
@@ -476,7 +614,7 @@ static bool has_none(const dspec_tracer_seat *mine, const struct lane *lane) {
 static void begins_and_ends(dspec_tracer *tracer, dspec_tracer_seat *mine, uint32_t state) {
     struct lane *lane = quiet(tracer, mine, state);
     dspec_path path = dspec_path_begin(tracer), second = dspec_path_begin(tracer);
-    CHECK(query_in(&path, 1) == DSPEC_OK && path.lane == &lane->front && path.own && path.token == dspec_tracer_token_5);
+    CHECK(query_in(&path, 1) == DSPEC_OK && path.lane == &lane->front && path.own && path.token == dspec_tracer_token_6);
     CHECK(mine->own == &lane->front && mine->open == 1 && mine->plain == DSPEC_TRACER_NONE_ && !mine->busy && lane->front.inside == 0 && is(lane, 2 * USER | (state & SERVE)));
     CHECK(query_in(&second, 1) == DSPEC_OK && second.lane == &lane->front && mine->open == 2 && is(lane, 3 * USER | (state & SERVE)));
     CHECK(dspec_path_drop(&path) && path.over && path.token == 0 && mine->own == &lane->front && mine->open == 1 && !mine->busy && lane->front.inside == 0 && is(lane, 2 * USER));
@@ -505,6 +643,39 @@ static void neither_begins_nor_ends(dspec_tracer *tracer, dspec_tracer_seat *min
     mine->open = 0;
     lane->handed = 0;
     lane->front.state = 0;
+}
+
+static void *takes_a_path(void *of_tracer) {
+    dspec_tracer *tracer = of_tracer;
+    const uint64_t began = now();
+    dspec_path path = dspec_path_begin(tracer);
+    CHECK(query_in(&path, 1) == DSPEC_OK && path.own && now() - began < 20000000);
+    CHECK(dspec_path_keep(&path));
+    return NULL;
+}
+
+/* A thread that keeps the only lane and stands still: another one has it as its own, and the first one records again after that. */
+static void *idle_lane_goes(void *unused) {
+    const dspec_tracer_options options = { .lanes = 1, .paths = PATHS, .no_crash = true, .no_term = true, .period_ms = 1000 };
+    dspec_tracer tracer = { 0 };
+    dspec_tracer_report report;
+    char folder[] = "/tmp/dspec-inside-XXXXXX", words[64];
+    pthread_t thread;
+    if (!CHECK(mkdtemp(folder) != NULL) || !CHECK(dspec_tracer_start(&tracer, folder, &options, DSPEC_PROBES(query)))) return unused;
+    const dspec_tracer_seat *mine = &dspec_seats[tracer.body->slot];
+    for (int i = 0; i < 10 * PATHS_BEFORE && mine->kept == 0; i++) {
+        dspec_path path = dspec_path_begin(&tracer);
+        CHECK(query_in(&path, 1) == DSPEC_OK && dspec_path_drop(&path));
+    }
+    CHECK(mine->kept != 0 && mine->own == NULL);
+    if (CHECK(pthread_create(&thread, NULL, takes_a_path, &tracer) == 0)) pthread_join(thread, NULL);
+    takes_a_path(&tracer);
+    CHECK(mine->kept == 0 && query_now(&tracer, 1) == DSPEC_OK);
+    CHECK(dspec_tracer_stop(&tracer, &report) && report.kept == 2 && report.no_slot == 0 && report.waited == 0 && report.accepted == 3);
+    dspec_tracer_drop(&tracer);
+    snprintf(words, sizeof words, "rm -rf '%s'", folder);
+    CHECK(system(words) == 0);
+    return unused;
 }
 
 static void *at_once(void *unused) {
@@ -538,6 +709,12 @@ int main(void) {
     claims();
     shares();
     paths_go();
+    keeps();
+    goes_on();
+    taken_over();
+    stays_in_use();
+    is_waited_for();
+    given_back();
     ended_before();
     for_record();
     taken();
@@ -549,6 +726,7 @@ int main(void) {
     if (CHECK(pthread_create(&thread, NULL, numbers, NULL) == 0)) pthread_join(thread, NULL);
     if (CHECK(pthread_create(&thread, NULL, owes, NULL) == 0)) pthread_join(thread, NULL);
     if (CHECK(pthread_create(&thread, NULL, at_once, NULL) == 0)) pthread_join(thread, NULL);
+    if (CHECK(pthread_create(&thread, NULL, idle_lane_goes, NULL) == 0)) pthread_join(thread, NULL);
     if (CHECK(pthread_create(&thread, NULL, has_stack, NULL) == 0)) pthread_join(thread, NULL);
     free(of);
     return check_end();

@@ -1,5 +1,5 @@
 /* A trace with a bound on disk: `limit FOLDER`, of which FOLDER.0, FOLDER.1 .. aren't there yet. Records of widths that end at each fourth byte, whose stamps go back where paths are
- * kept, go into it; the folders are looked at behind each batch: never more bytes than the bound, nor more folders. Names that are taken, planted or moved away; folders that can't
+ * kept, go into it; the folders are looked at after each batch: never more bytes than the bound, nor more folders. Names that are taken, planted or moved away; folders that can't
  * be taken away or begun; bounds that can't be. tests/c/tracer reads what is left. The last line counts the checks.
  *
  * The linker's --wrap leads unlinkat, mkdirat and realloc through functions that refuse. */
@@ -267,7 +267,7 @@ static void names_that_are_taken(const char *path) {
     CHECK(bytes_in(moved) == 0 && bytes_in(third) == 0);
     struct stat of;
     CHECK(lstat(link, &of) == 0 && S_ISLNK(of.st_mode) && lstat(plain, &of) == 0 && S_ISREG(of.st_mode));
-    /* A later run goes on behind all names that are there, and leaves them alone. */
+    /* A later run goes on after all names that are there, and leaves them alone. */
     const uint64_t next = folder.number;
     CHECK(begins(path, 100000, 4) && folder.parts[0].number == next && dspec_folder_end(&folder));
     tell(path, 0);

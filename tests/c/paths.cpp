@@ -106,7 +106,7 @@ void texts() {
     CHECK(dspec::text<48>{}.view().empty() && dspec::text<48>{}.whole());
 }
 
-void fails_behind_a_step(dspec::cpu &cpu, number of) {
+void fails_after_a_step(dspec::cpu &cpu, number of) {
     dspec::path path = cpu.open();
     path.record(of, 1);
     throw std::runtime_error("thrown");
@@ -119,7 +119,7 @@ void paths() {
     {
         dspec::cpu cpu = session.cpu_of(0);
         try {
-            fails_behind_a_step(cpu, w.of_one);
+            fails_after_a_step(cpu, w.of_one);
         } catch (const std::runtime_error &) {
             CHECK(cpu.report().discarded == 1);
         }
@@ -175,7 +175,7 @@ void waits() {
     }
 }
 
-/* A batch goes back behind whoever saw it; stamps come with records. */
+/* A batch goes back after whoever saw it; stamps come with records. */
 void batches() {
     world w;
     w.schema.stamp();

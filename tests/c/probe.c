@@ -115,13 +115,13 @@ static void other_schema(void) {
     dspec_report report;
     const word_probe narrower = { 3, 0x4 };
     const pair_probe longer = { 3, 0x88 };
-    const single_probe of_narrow = { 1, 0x8 }, behind = { 4, 0x8 }, far = { UINT32_MAX, 0x8 };
+    const single_probe of_narrow = { 1, 0x8 }, after = { 4, 0x8 }, far = { UINT32_MAX, 0x8 };
     const mixed_probe none = { 0, 0x48 };
     start(&l, false);
     ANSWERS(word_trace(&narrower, &l.cpu, 0, 1), DSPEC_BAD_RECORD);
     ANSWERS(pair_trace(&longer, &l.cpu, 0, 1, 2), DSPEC_BAD_RECORD);
     ANSWERS(single_trace(&of_narrow, &l.cpu, 0, 1), DSPEC_BAD_RECORD);
-    ANSWERS(single_trace(&behind, &l.cpu, 0, 1), DSPEC_BAD_RECORD);
+    ANSWERS(single_trace(&after, &l.cpu, 0, 1), DSPEC_BAD_RECORD);
     ANSWERS(single_trace(&far, &l.cpu, 0, 1), DSPEC_BAD_RECORD);
     ANSWERS(mixed_trace(&none, &l.cpu, 0, 1, 2), DSPEC_BAD_RECORD);
     ANSWERS(word_speculate(&narrower, &l.cpu, 1, 0, 1), DSPEC_BAD_RECORD);
@@ -133,7 +133,7 @@ static void other_schema(void) {
     ANSWERS(dspec_put_2(&l.cpu, CLAIM(0x8, 3) | 1 << 8, 0, 0, 1), DSPEC_BAD_RECORD);
     ANSWERS(dspec_put_1(&l.cpu, 0, 0, 1), DSPEC_BAD_RECORD);
     ANSWERS(dspec_put(&l.cpu, 0, 0, NULL, 0), DSPEC_BAD_RECORD);
-    /* what stands in the EPID's place and in the gap behind b counts for nothing */
+    /* what stands in the EPID's place and in the gap after b counts for nothing */
     ANSWERS(dspec_put_1(&l.cpu, CLAIM(0x211, 1), 0, UINT64_C(0xffff01fffffffff)), DSPEC_OK);
     MUST(dspec_cpu_report(&l.cpu, &report));
     CHECK(report.offered == 1 && report.refused == 13);
@@ -141,7 +141,7 @@ static void other_schema(void) {
     dspec_closed_drop(&l.closed);
 }
 
-/* Each of these as a record of its own and by dspec_trace: the same bytes behind one another. */
+/* Each of these as a record of its own and by dspec_trace: the same bytes one after another. */
 static void same_bytes(bool stamped) {
     static const uint8_t widths[][4] = { { 4 }, { 8 }, { 8, 8 }, { 8, 4 }, { 4, 4 }, { 1, 2, 4, 8 } };
     static const size_t counts[] = { 1, 1, 2, 2, 2, 4 };

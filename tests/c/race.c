@@ -1,6 +1,6 @@
 /* Random calls on up to eight CPUs at once, each in a thread, beside a consumer and a thread that interrupts them inside their calls:
  * `c_race COUNT SEED` makes COUNT sessions. A signal's handler yields, spins or sleeps there; where the processor can step, some calls
- * are interrupted behind each of their instructions. At the end of each session c_race_account.c compares the records that came, and the
+ * are interrupted after each of their instructions. At the end of each session c_race_account.c compares the records that came, and the
  * reports, with what every call was answered. Which call meets which is the machine's: a seed gives the calls alone. */
 #define _GNU_SOURCE
 #include "check.h"
@@ -63,7 +63,7 @@ static void on_step(int signal) {
     else sched_yield();
 }
 
-/* From here on, or no longer, the processor traps behind each instruction. */
+/* From here on, or no longer, the processor traps after each instruction. */
 static inline void step(bool is_on) {
 #if defined(__x86_64__)
     if (is_on) __asm__ volatile("pushfq\n\torq $0x100, (%%rsp)\n\tpopfq" ::: "memory", "cc");

@@ -61,7 +61,7 @@ static void flaw(account *a, const char *what, uint64_t one, uint64_t other) { r
 static bool is_before(const race *r, uint64_t one, uint64_t other) { return r->is_timed && one < other; }
 
 /* Whether the call was made between the opening and the decision of the speculation, if there was one, and can have seen neither before
- * nor behind. */
+ * nor after. */
 static bool is_within(const race *r, const fate *f, const race_entry *e) {
     if (!f->is_open || !is_before(r, f->opening->ended, e->began)) return false;
     return f->decided == UNDECIDED || is_before(r, e->ended, f->deciding->began);
@@ -98,7 +98,7 @@ static void learn(race *r, fates *all, uint32_t cpu) {
     }
 }
 
-/* The issues of a slot come one behind another, each once the one before was decided. */
+/* The issues of a slot come one after another, each once the one before was decided. */
 static void check_issues(race *r, fates *all) {
     for (uint32_t i = 0; i < all->places; i++) {
         const fate *f = &all->of[i];
@@ -192,7 +192,7 @@ static void account_kept_offer(account *a, const race_entry *e) {
         return;
     }
     if (is_before(a->r, e->ended, f->opening->began)) flaw(a, "an offer before the opening is taken", e->id, e->serial);
-    if (f->decided != UNDECIDED && is_before(a->r, f->deciding->ended, e->began)) flaw(a, "an offer behind the decision is taken", e->id, e->serial);
+    if (f->decided != UNDECIDED && is_before(a->r, f->deciding->ended, e->began)) flaw(a, "an offer after the decision is taken", e->id, e->serial);
     make_room(a, b, e->id);
     if (e->status == DSPEC_DROPPED) a->own.specdropped++;
     else keep(b, e->serial);
@@ -257,7 +257,7 @@ static void account_service(account *a, const race_entry *e, uint32_t place) {
     }
 }
 
-/* Whether the call did what its kind does: else it was behind the last that a CPU makes, or behind the stop. */
+/* Whether the call did what its kind does: else it was after the last that a CPU makes, or after the stop. */
 static bool is_done(account *a, const race_entry *e) {
     bool is_worn = a->made >= a->r->config.max_calls;
     if (is_worn != (e->status == DSPEC_WORN)) flaw(a, "worn too early, or not worn", a->made, e->status);
@@ -267,8 +267,8 @@ static bool is_done(account *a, const race_entry *e) {
     }
     a->made++;
     if (e->status != DSPEC_STOPPED) {
-        bool is_behind = a->r->stop_ended > 0 && is_before(a->r, a->r->stop_ended, e->began);
-        if (a->is_stopped || is_behind) flaw(a, "it isn't stopped behind a stop", e->serial, e->status);
+        bool is_after = a->r->stop_ended > 0 && is_before(a->r, a->r->stop_ended, e->began);
+        if (a->is_stopped || is_after) flaw(a, "it isn't stopped after a stop", e->serial, e->status);
         return true;
     }
     if (a->r->stop_began == 0 || is_before(a->r, e->ended, a->r->stop_began)) flaw(a, "stopped, and no stop was made", e->serial, 0);

@@ -168,7 +168,7 @@ static bool is_read_by_program(const char *folder) {
     return status == 0;
 }
 
-/* What is wrong with a trace that should have so many events, of which the last kind isn't counted; NULL: nothing, or it wasn't begun. */
+/* What is wrong with a trace that should have so many events, of which the last two kinds aren't counted; NULL: nothing, or it wasn't begun. */
 static const char *wrong_with(const char *name, bool is_due, uint64_t records, bool without_last) {
     char folder[4200];
     read_folder is;
@@ -177,7 +177,7 @@ static const char *wrong_with(const char *name, bool is_due, uint64_t records, b
     is = folder_read(folder);
     if (is.why != NULL) return is.why;
     all.folders++;
-    if (is.events - (without_last ? is.found[is.known] : 0) != records) return "it doesn't have as many records as is told";
+    if (is.events - (without_last ? is.found[is.known] + is.found[is.known - 1] : 0) != records) return "it doesn't have as many records as is told";
     return is_new(is.sum) && reader != NULL && !is_read_by_program(folder) ? "READER doesn't read it" : NULL;
 }
 

@@ -1,4 +1,4 @@
-/* What dspec_salvage takes of a memory's file, at each of its bounds, by hand: the head of the file (tracer/salvage_file.c), and what the process of a lane tells through its pipe (tracer/salvage_lane.c). Its last
+/* What dspec_salvage takes of a memory's file, at each of its bounds, by hand: the head of the file (tracer/salvage_file.c), what the process of a lane tells through its pipe (tracer/salvage_lane.c), and parked paths on their way (tracer/salvage_taken.c). Its last
  * line counts its checks. */
 #include "../fuzz/memory.h"
 
@@ -191,9 +191,9 @@ static bool finds(void *of, found_batch *batch) {
 static void tell(struct told event, uint32_t records, uint64_t stamp) {
     uint8_t bytes[8 * RECORD] = { 0 };
     for (uint32_t i = 0; i < records; i++) {
-        salvage_put(bytes + i * RECORD, 1, 4);
-        salvage_put(bytes + i * RECORD + 4, stamp + i, 8);
-        salvage_put(bytes + i * RECORD + 12, 10 + i, 4);
+        number_put(bytes + i * RECORD, 1, 4);
+        number_put(bytes + i * RECORD + 4, stamp + i, 8);
+        number_put(bytes + i * RECORD + 12, 10 + i, 4);
     }
     event.length = (uint64_t)records * RECORD;
     CHECK(write(pipe_of, &event, sizeof event) == (ssize_t)sizeof event && write(pipe_of, bytes, event.length) == (ssize_t)event.length);
@@ -322,6 +322,171 @@ static void without_top(void) {
     CHECK(system(words) == 0);
 }
 
+/* ---- Parked paths that were taken out of their ring. ---- */
+
+enum { OF_PROGRAM = 1, OF_PATH = 2, TAKEN_RECORD = 20, TAKEN_BUFFER = 240, TAKEN_SIZE = TAKEN_BUFFER + 2 * BYTES_OF_PATH, TAKEN_AT = 64 };
+
+/* A memory of one lane, in which nothing is on its way; its file has the bytes that come after the tracer. */
+static saved_file *memory_of_taken(uint8_t bytes[TAKEN_SIZE]) {
+    static const uint8_t of_path[] = { 4, 8, 8, 8, 8, 8 };
+    static saved_head head;
+    static saved_file file;
+    static _Alignas(body) uint8_t of_tracer[sizeof(body) + sizeof(struct lane)];
+    head.bufsize = TAKEN_BUFFER;
+    head.body_at = TAKEN_AT / 2;
+    head.body_size = TAKEN_AT / 2;
+    file.head = &head;
+    file.latest = LATEST;
+    file.layout = (dspec_layout){ .stamped = true, .enablings = 2 };
+    file.layout.of[0].fields = 2;
+    file.layout.of[0].widths[0] = file.layout.of[0].widths[1] = 4;
+    file.layout.of[1].fields = sizeof of_path;
+    memcpy(file.layout.of[1].widths, of_path, sizeof of_path);
+    file.tracer = (body *)(void *)of_tracer;
+    file.tracer->claim_of_path = UINT64_C(7) << 32 | OF_PATH;
+    head.lanes = 2;
+    file.tracer->taken = (taken_paths){ .state = IS_TAKING, .lane = 1, .cpu = 2, .next = { .at = NO_NEXT }, .before = 9 };
+    memset(bytes, 0, TAKEN_SIZE);
+    return &file;
+}
+
+/* Adds records of a path, made at these times. */
+static void add_records(taken_path *path, uint8_t *bytes, uint32_t number, uint32_t count, uint64_t stamp) {
+    *path = (taken_path){ { 70, 71 }, number, 3, 0, path->at, count * TAKEN_RECORD };
+    for (uint32_t i = 0; i < count; i++) {
+        uint8_t *record = bytes + path->at + i * TAKEN_RECORD;
+        number_put(record, OF_PROGRAM, 4);
+        number_put(record + 4, stamp + i, 8);
+        number_put(record + 12, number, 4);
+        number_put(record + 16, 90 + i, 4);
+    }
+}
+
+/* Adds a path of two records, with its event. */
+static void add_path(saved_file *file, uint8_t *bytes, uint32_t number) {
+    taken_paths *taken = &file->tracer->taken;
+    taken_path path = { .at = taken->used };
+    add_records(&path, bytes, number, 2, 5);
+    taken->used = taken_put_event(&file->layout, file->tracer->claim_of_path, &path, 8, bytes);
+    taken->count++;
+}
+
+/* The path that is being taken, of so many records. */
+static void begin_next(saved_file *file, uint8_t *bytes, uint32_t number, uint32_t count) {
+    file->tracer->taken.next.at = file->tracer->taken.used;
+    add_records(&file->tracer->taken.next, bytes, number, count, 5);
+}
+
+/* What is read of a file that has these bytes. */
+static const char *reads_taken(saved_file *file, const uint8_t *bytes, size_t size, bool is_parked, found_batch *batch) {
+    static uint8_t kept[TAKEN_SIZE];
+    uint8_t *read_of = NULL;
+    const char *why;
+    file->at = memfd_create("taken", MFD_CLOEXEC);
+    CHECK(file->at >= 0 && pwrite(file->at, bytes, size, TAKEN_AT) == (ssize_t)size);
+    why = saved_taken_read(file, is_parked, batch, &read_of);
+    close(file->at);
+    if (why != NULL) return why;
+    memcpy(kept, read_of, sizeof kept);
+    free(read_of);
+    batch->batch.bytes = kept;
+    return NULL;
+}
+
+/* The numbers of the paths of a batch, and how many records each has beside its event. */
+static bool has_paths(const saved_file *file, const found_batch *batch, uint32_t first, uint32_t first_records, uint32_t second, uint32_t second_records) {
+    const uint32_t numbers[] = { first, second }, records[] = { first_records, second_records };
+    dspec_record record;
+    size_t at = 0;
+    for (size_t path = 0; path < 2 && numbers[path] != 0; path++) {
+        for (uint32_t i = 0; i <= records[path]; i++)
+            if (dspec_read(&file->layout, batch->batch.bytes, batch->batch.len, &at, &record) != DSPEC_READ || record.values[0] != numbers[path] || (record.epid == OF_PATH) != (i == records[path]))
+                return false;
+        if (record.values[1] != 3 || record.values[2] != (uint64_t)DSPEC_WHY_KEY << 32 || record.values[4] != 70 || record.values[5] != 71) return false;
+        if (record.values[3] != (records[path] > 0 ? 5 : 0)) return false;
+    }
+    return at == batch->batch.len;
+}
+
+static const char not_whole[] = "aren't whole paths";
+
+/* What was taken is whole, and of the path that was being taken it is known whether it is in its ring still. */
+static void taken_whole(void) {
+    uint8_t bytes[TAKEN_SIZE];
+    saved_file *file = memory_of_taken(bytes);
+    taken_paths *taken = &file->tracer->taken;
+    found_batch batch;
+    CHECK(says(reads_taken(file, bytes, sizeof bytes, false, &batch), NULL) && batch.kind == FOUND_KEPT && batch.records == 0);
+    add_path(file, bytes, 11);
+    add_path(file, bytes, 12);
+    CHECK(says(reads_taken(file, bytes, sizeof bytes, false, &batch), NULL) && batch.kind == FOUND_KEPT && batch.batch.cpu == 1 && batch.records == 6 && has_paths(file, &batch, 11, 2, 12, 2));
+    taken->state = IS_WRITING;
+    CHECK(says(reads_taken(file, bytes, sizeof bytes, false, &batch), NULL) && batch.kind == FOUND_BROUGHT && batch.batch.cpu == 2 && batch.before == 9 && batch.records == 6);
+    file = memory_of_taken(bytes);
+    add_path(file, bytes, 11);
+    begin_next(file, bytes, 13, 3);
+    CHECK(says(reads_taken(file, bytes, sizeof bytes, false, &batch), NULL) && batch.records == 7 && has_paths(file, &batch, 11, 2, 13, 3));
+    CHECK(dspec_number_at(batch.batch.bytes + batch.batch.len - BYTES_OF_PATH + 4, 8) == 7); /* as its last record was made */
+    CHECK(says(reads_taken(file, bytes, sizeof bytes, true, &batch), NULL) && batch.records == 3 && has_paths(file, &batch, 11, 2, 0, 0));
+    taken->count++; /* it is counted already, and not there */
+    CHECK(says(reads_taken(file, bytes, sizeof bytes, false, &batch), NULL) && batch.records == 7 && has_paths(file, &batch, 11, 2, 13, 3));
+    taken->count++;
+    CHECK(says(reads_taken(file, bytes, sizeof bytes, false, &batch), not_whole));
+    taken->count -= 2;
+    taken->state = IS_WRITING;
+    CHECK(says(reads_taken(file, bytes, sizeof bytes, false, &batch), NULL) && batch.records == 3);
+    file = memory_of_taken(bytes);
+    begin_next(file, bytes, 14, 0);
+    CHECK(says(reads_taken(file, bytes, sizeof bytes, false, &batch), NULL) && batch.records == 1 && has_paths(file, &batch, 14, 0, 0, 0));
+}
+
+/* What isn't whole is refused. */
+static void taken_damaged(void) {
+    uint8_t bytes[TAKEN_SIZE];
+    saved_file *file = memory_of_taken(bytes);
+    taken_paths *taken = &file->tracer->taken;
+    found_batch batch;
+    add_path(file, bytes, 11);
+    CHECK(reads_taken(file, bytes, sizeof bytes - 1, false, &batch) != NULL); /* the file ends before */
+    taken->count = 2;
+    CHECK(says(reads_taken(file, bytes, sizeof bytes, false, &batch), not_whole));
+    taken->count = 1;
+    taken->state = IS_WRITING + 1;
+    CHECK(says(reads_taken(file, bytes, sizeof bytes, false, &batch), not_whole));
+    taken->state = IS_TAKING;
+    taken->cpu = 3;
+    CHECK(says(reads_taken(file, bytes, sizeof bytes, false, &batch), not_whole));
+    taken->cpu = 2;
+    taken->used = TAKEN_SIZE + 8;
+    CHECK(says(reads_taken(file, bytes, sizeof bytes, false, &batch), not_whole));
+    taken->used = 2 * TAKEN_RECORD; /* no event at its end */
+    taken->count = 0;
+    CHECK(says(reads_taken(file, bytes, sizeof bytes, false, &batch), not_whole));
+    file = memory_of_taken(bytes);
+    add_path(file, bytes, 11);
+    bytes[TAKEN_RECORD + 12]++; /* a record of another path */
+    CHECK(says(reads_taken(file, bytes, sizeof bytes, false, &batch), not_whole));
+    bytes[TAKEN_RECORD + 12]--;
+    number_put(bytes + TAKEN_RECORD + 4, LATEST, 8);
+    CHECK(says(reads_taken(file, bytes, sizeof bytes, false, &batch), NULL));
+    number_put(bytes + TAKEN_RECORD + 4, LATEST + 1, 8);
+    CHECK(says(reads_taken(file, bytes, sizeof bytes, false, &batch), not_whole));
+    for (uint32_t count = 12; count <= 13; count++) { /* the longest one with its event, and one more */
+        file = memory_of_taken(bytes);
+        begin_next(file, bytes, 12, count);
+        CHECK(says(reads_taken(file, bytes, sizeof bytes, false, &batch), (size_t)count * TAKEN_RECORD <= TAKEN_BUFFER ? NULL : not_whole));
+    }
+    taken->next.length = SIZE_MAX - 8;
+    CHECK(says(reads_taken(file, bytes, sizeof bytes, false, &batch), not_whole));
+    file = memory_of_taken(bytes);
+    begin_next(file, bytes, 12, 2);
+    taken->next.number = 13;
+    CHECK(says(reads_taken(file, bytes, sizeof bytes, false, &batch), not_whole));
+    taken->next.number = 12;
+    taken->next.length -= 4;
+    CHECK(says(reads_taken(file, bytes, sizeof bytes, false, &batch), not_whole));
+}
+
 int main(void) {
     memory_begin();
     heads();
@@ -334,5 +499,7 @@ int main(void) {
     may_differ();
     torn();
     without_top();
+    taken_whole();
+    taken_damaged();
     return check_end();
 }

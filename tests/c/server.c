@@ -77,7 +77,7 @@ static void *work(void *of) {
         if (request % 16 == 0) heartbeat_trace(&probes.heartbeat, &me->cpu, now(), me->number, -(int64_t)request);
         dspec_service(&me->cpu, &sealed, &settled);
     }
-    /* More than a principal buffer has room for, and behind it paths that are kept: some are dropped, and some are lost. */
+    /* More than a principal buffer has room for, and after it paths that are kept: some are dropped, and some are lost. */
     for (int64_t beat = 0; beat < 300; beat++) heartbeat_trace(&probes.heartbeat, &me->cpu, now(), me->number, beat);
     for (uint64_t number = 0; number < 5; number++) serve(me, 10007 + 50 * number);
     atomic_fetch_sub(&at_work, 1);

@@ -37,7 +37,7 @@ void serve(const probes &of, dspec::cpu &cpu, std::uint64_t number) {
     if (is_long || number % 50 == 7) path.commit();
 }
 
-/* Requests, then more records than a principal buffer has room for, and behind those paths that are kept. */
+/* Requests, then more records than a principal buffer has room for, and after those paths that are kept. */
 void work(const probes &of, dspec::cpu &cpu, std::uint32_t worker) {
     for (std::uint64_t number = 0; number < 500; number++) {
         serve(of, cpu, number);

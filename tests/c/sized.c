@@ -51,7 +51,7 @@ static void stops(void) {
     dspec_tracer_drop(&tracer);
 }
 
-/* Of an older program's options what it has is heeded, and no byte behind it is looked at. */
+/* Of an older program's options what it has is heeded, and no byte after it is looked at. */
 static void shorter(bool by_environment) {
     const size_t size = offsetof(dspec_tracer_options, max_bytes);
     dspec_tracer_options *options = before_the_end(size);

@@ -196,7 +196,7 @@ static void switches(dspec_cpu *cpu, bool due) {
     CHECK(sealed == due && settled == 0);
 }
 
-/* Batches of two CPUs that are out at once, each with its own bytes; what is left of each behind them. */
+/* Batches of two CPUs that are out at once, each with its own bytes; what is left of each after them. */
 static void batches(void) {
     static const uint8_t seven[] = { 1, 0, 0, 0, 7, 0, 0, 0 }, eight[] = { 1, 0, 0, 0, 8, 0, 0, 0 };
     static const uint8_t nine[] = { 1, 0, 0, 0, 9, 0, 0, 0 };

@@ -1,5 +1,5 @@
-/* A tracer that is killed behind each instruction: of its calls, `stepped FOLDER SNAP OUT EACH`, and of its consumer's thread, as it writes what there is, `stepped FOLDER SNAP OUT EACH
- * consumer`; as it can't, since the disk is full, `full`; and as it can again, `room`. The linker's --wrap leads what keeps room on the disk through here, and the consumer's own records. Behind each EACH-th instruction the memory's file is copied to SNAP, as a kill would leave it, and read by `stepped judge SNAP OUT ..`, a process of its own. What was answered has
+/* A tracer that is killed after each instruction: of its calls, `stepped FOLDER SNAP OUT EACH`, and of its consumer's thread, as it writes what there is, `stepped FOLDER SNAP OUT EACH
+ * consumer`; as it can't, since the disk is full, `full`; as it can again, `room`; as it keeps parked paths by their keys, `parked`; and as it finds no room for these, and room later, `parked_full`. The linker's --wrap leads what keeps room on the disk through here, and the consumer's own records. After each EACH-th instruction the memory's file is copied to SNAP, as a kill would leave it, and read by `stepped judge SNAP OUT ..`, a process of its own. What was answered has
  * to be there or in the tracer's folder, what was thrown away nowhere, and what is being made may be there or not, as a whole. The last line counts what was judged. */
 #define _GNU_SOURCE
 #include "dspec_tracer.h"
@@ -25,17 +25,17 @@
 DSPEC_PROBE(query, uint64_t, request, uint32_t, step);
 DSPEC_PROBE(tick, uint64_t, number);
 
-enum { REQUESTS = 4, STEPS = 3, MOST = 64, PACKET = 1024, FILES = 8 };
+enum { REQUESTS = 4, PARKED = 5, STEPS = 3, MOST = 64, PACKET = 1024, FILES = 8 };
 
 /* What is known while a call is made: how many requests are decided, of which those with odd numbers were kept; how many records the one that is open has; how many ticks there are; and
- * what is being made: a round is the consumer's, in whose middle an open path may be out of reach. */
-enum { NOTHING = 0, A_RECORD = 1, A_KEEP = 2, A_DROP = 3, A_TICK = 4, A_ROUND = 5 };
+ * what is being made: a round is the consumer's, in whose middle an open path may be out of reach, and so is a turn in which it keeps what is parked. */
+enum { NOTHING = 0, A_RECORD = 1, A_KEEP = 2, A_DROP = 3, A_TICK = 4, A_ROUND = 5, A_KEY = 6 };
 typedef struct known {
     uint64_t decided, records, ticks, making;
 } known;
 
 static known now;
-static bool *is_putting; /* the consumer makes a record of its own, in the middle of which each third instruction is looked behind: few of them are between its bytes and its count */
+static bool *is_putting; /* the consumer makes a record of its own, in the middle of which each third instruction ends with a look: few of them are between its bytes and its count */
 static char **names;
 static int memory;
 static uint64_t instructions, judged, wrong, lacking, each;
@@ -65,14 +65,32 @@ static void add_query(found *all, uint64_t request, uint64_t at) {
     all->steps[place] = at;
 }
 
-/* The bytes of an event's fields: of the program's, each with the number of its path first, of the tracer's own of a path, and of one that tells of an open path. */
-static uint64_t size_of(uint64_t epid) {
+/* How many events a folder's metadata declares. */
+static uint64_t events_of(const char *folder) {
+    static const char event[] = "event {";
+    static char text[65536];
+    uint64_t events = 0;
+    char path[4200];
+    ssize_t size;
+    int file;
+    snprintf(path, sizeof path, "%s/metadata", folder);
+    file = open(path, O_RDONLY);
+    size = file < 0 ? 0 : read(file, text, sizeof text - 1);
+    if (file >= 0) close(file);
+    text[size > 0 ? size : 0] = 0;
+    for (const char *at = text; (at = strstr(at, event)) != NULL; at += sizeof event - 1) events++;
+    return events;
+}
+
+/* The bytes of an event's fields: of the program's, each with the number of its path first, of the tracer's own of a path, which is the last one of undecided paths too, and of one that tells of an
+ * open path. */
+static uint64_t size_of(uint64_t epid, uint64_t events) {
     enum { QUERY = 1, TICK = 2, KEPT = 5 };
-    return epid == QUERY ? 16 : epid == TICK ? 12 : epid == KEPT ? 44 : 32;
+    return epid == QUERY ? 16 : epid == TICK ? 12 : epid == KEPT || epid == events ? 44 : 32;
 }
 
 /* The events of a file of the lane: queries by their requests, and ticks. */
-static void read_file(const char *folder, int number, found *all) {
+static void read_file(const char *folder, int number, uint64_t events, found *all) {
     uint8_t packet[PACKET];
     char path[4200];
     int file;
@@ -88,14 +106,15 @@ static void read_file(const char *folder, int number, found *all) {
             } else if (epid == 2 && all->ticked < MOST) {
                 all->ticks[all->ticked++] = number_of(packet + at + 4, 8);
             }
-            at += size_of(epid);
+            at += size_of(epid, events);
         }
     }
     if (file >= 0) close(file);
 }
 
 static void read_events(const char *folder, found *all) {
-    for (int number = 0; number < FILES; number++) read_file(folder, number, all);
+    const uint64_t events = events_of(folder);
+    for (int number = 0; number < FILES; number++) read_file(folder, number, events, all);
 }
 
 static int say(const char *what, const found *all) {
@@ -113,6 +132,28 @@ static bool are_kept(const found *all, uint64_t *many) {
     return all->count % STEPS == 0;
 }
 
+/* The steps of a request, which are there whole or not at all: 1 or 0; else -1. */
+static int has_whole(const found *all, uint64_t request) {
+    uint64_t steps = 0;
+    for (uint64_t i = 0; i < all->count; i++) {
+        if (all->requests[i] != request) continue;
+        if (all->steps[i] != steps++) return -1;
+    }
+    return steps == 0 || steps == STEPS ? steps == STEPS : -1;
+}
+
+/* Each request that was parked is kept or undecided, and not both. The keys of those with odd numbers are kept, and of no other. */
+static int judge_parked(const found *kept, const found *undecided) {
+    for (uint64_t request = 1; request <= PARKED; request++) {
+        const int is_kept = has_whole(kept, request), is_undecided = has_whole(undecided, request);
+        if (is_kept < 0 || is_undecided < 0 || is_kept + is_undecided != 1 || (is_kept == 1 && request % 2 == 0)) {
+            say("kept", kept);
+            return say("undecided", undecided);
+        }
+    }
+    return kept->count + undecided->count == PARKED * STEPS ? 0 : say("others", kept);
+}
+
 static int judge(const char *snap, const char *out, const known *is) {
     static found kept, open_paths;
     static dspec_salvaged told;
@@ -127,6 +168,7 @@ static int judge(const char *snap, const char *out, const known *is) {
     read_events(path, &kept);
     snprintf(path, sizeof path, "%s/undecided", out);
     read_events(path, &open_paths);
+    if (is->making == A_KEY) return judge_parked(&kept, &open_paths);
     if (!are_kept(&kept, &many) || many < due || many > due + (is->making == A_KEEP)) return say("kept", &kept);
     if (kept.ticked < is->ticks || kept.ticked > is->ticks + (is->making == A_TICK)) return say("ticks", &kept);
     for (uint64_t i = 0; i < kept.ticked; i++)
@@ -174,7 +216,7 @@ static void look(void) {
     lacking += WIFEXITED(status) && WEXITSTATUS(status) == IS_LACKING;
     if (status != 0 && !(WIFEXITED(status) && WEXITSTATUS(status) == IS_LACKING)) {
         char line[160];
-        int length = snprintf(line, sizeof line, "behind instruction %" PRIu64 ": decided %" PRIu64 ", records %" PRIu64 ", ticks %" PRIu64 ", making %" PRIu64 "\n", instructions, is[0], is[1], is[2], is[3]);
+        int length = snprintf(line, sizeof line, "after instruction %" PRIu64 ": decided %" PRIu64 ", records %" PRIu64 ", ticks %" PRIu64 ", making %" PRIu64 "\n", instructions, is[0], is[1], is[2], is[3]);
         if (write(1, line, (size_t)length) != length || ++wrong > 20) _exit(7);
     }
 }
@@ -229,8 +271,9 @@ static bool opens(const char *folder) {
     return memory >= 0;
 }
 
-static bool starts(dspec_tracer *tracer, const char *folder) {
-    const dspec_tracer_options options = { .lanes = 1, .paths = 2, .bufsize = 4096, .specsize = 256, .period_ms = 1000000, .no_crash = true, .no_term = true, .survive = true };
+static bool starts(dspec_tracer *tracer, const char *folder, uint64_t park_bytes) {
+    const dspec_tracer_options options = { .lanes = 1, .paths = 2, .bufsize = 4096, .specsize = 256, .period_ms = 1000000, .no_crash = true, .no_term = true, .survive = true,
+                                           .park_bytes = park_bytes };
     if (!dspec_tracer_start(tracer, folder, &options, DSPEC_PROBES(query, tick))) {
         printf("%s\n", tracer->why);
         return false;
@@ -272,6 +315,23 @@ dspec_status __wrap_dspec_put(dspec_cpu *cpu, uint64_t claim, uint64_t stamp, co
 static bool waits_for_disk(dspec_tracer *tracer) {
     is_full = true;
     return !dspec_tracer_flush(tracer, 60000);
+}
+
+/* Parks requests, says so, and keeps the keys of those with odd numbers once it is told to. With a full disk those stay parked until there is room. */
+static void play_parked(dspec_tracer *tracer, bool finds_full, int to, int from) {
+    char word = 0;
+    for (uint64_t number = 1; number <= PARKED; number++) {
+        dspec_path path = dspec_path_begin(tracer);
+        for (uint32_t at = 0; at < STEPS; at++) query_in(&path, number, at);
+        if (!dspec_path_key(&path, number, number) || !dspec_path_park(&path)) _exit(6);
+    }
+    if (write(to, &word, 1) != 1 || read(from, &word, 1) != 1) _exit(6);
+    is_full = finds_full;
+    for (uint64_t number = 1; number <= PARKED; number += 2) dspec_tracer_keep_key(tracer, number, number);
+    if (finds_full && dspec_tracer_flush(tracer, 3600000)) _exit(6);
+    is_full = false;
+    if (!dspec_tracer_flush(tracer, 3600000) || write(to, &word, 1) != 1) _exit(6);
+    pause();
 }
 
 /* Makes all requests and the first records of one more, says so, and flushes once it is told to. */
@@ -327,6 +387,7 @@ static bool reads_clock(pid_t thread) {
 
 static int step_the_consumer(const char *folder, const char *how) {
     static dspec_tracer tracer;
+    const bool parks = strncmp(how, "parked", 6) == 0;
     int to[2], from[2], status = 0, signal = 0;
     pid_t child, thread;
     char word = 0;
@@ -334,12 +395,14 @@ static int step_the_consumer(const char *folder, const char *how) {
     if (is_putting == MAP_FAILED || pipe(to) != 0 || pipe(from) != 0) return 4;
     child = fork();
     if (child == 0) {
-        if (starts(&tracer, folder)) play(&tracer, how, from[1], to[0]);
+        if (!starts(&tracer, folder, parks ? 4096 : 0)) _exit(3);
+        if (parks) play_parked(&tracer, strcmp(how, "parked_full") == 0, from[1], to[0]);
+        else play(&tracer, how, from[1], to[0]);
         _exit(3);
     }
     close(from[1]);
     if (read(from[0], &word, 1) != 1) return 5;
-    now = (known){ REQUESTS, 2, REQUESTS, A_ROUND };
+    now = (known){ REQUESTS, 2, REQUESTS, parks ? A_KEY : A_ROUND };
     thread = other_thread(child);
     if (!opens(folder) || thread == 0 || ptrace(PTRACE_SEIZE, thread, 0, 0) != 0 || ptrace(PTRACE_INTERRUPT, thread, 0, 0) != 0 || waitpid(thread, &status, __WALL) != thread) return 5;
     if (write(to[1], &word, 1) != 1) return 5;
@@ -365,7 +428,7 @@ int main(int count, char **words) {
     names = words;
     each = strtoull(words[4], NULL, 10);
     if (count == 6) return step_the_consumer(words[1], words[5]);
-    if (!starts(&tracer, words[1])) return 3;
+    if (!starts(&tracer, words[1], 0)) return 3;
     sigaction(SIGTRAP, &trap, NULL);
     for (uint64_t number = 1; number <= REQUESTS; number++) {
         one_request(&tracer, number);

@@ -161,15 +161,16 @@ static int how_lost(void) {
     return end_by_kill();
 }
 
-/* A disk that gets full, and where a word more says so has room again. */
-static int how_full(void) {
+/* Takes all that the disk has; and where a word more says so, gives that back later. */
+static int filler;
+
+static void fill_disk(void) {
     static char bytes[4096];
-    int filler;
-    up();
     filler = open(words[0], O_CREAT | O_WRONLY, 0600);
     while (write(filler, bytes, sizeof bytes) > 0 || write(filler, bytes, 1) > 0) {}
-    printf("kept=%" PRIu64, keep(0, 100));
-    printf(" flush=%d\n", dspec_tracer_flush(&tracer, 60000));
+}
+
+static int end_with_room(void) {
     if (words[1] == NULL) return end_by_kill();
     unlink(words[0]);
     close(filler);
@@ -177,14 +178,60 @@ static int how_full(void) {
     return end_by_kill();
 }
 
+/* A disk that gets full. */
+static int how_full(void) {
+    up();
+    fill_disk();
+    printf("kept=%" PRIu64, keep(0, 100));
+    printf(" flush=%d\n", dspec_tracer_flush(&tracer, 60000));
+    return end_with_room();
+}
+
+/* So many requests of five records each are parked, from the youngest to the oldest. */
+static uint64_t park(uint32_t count) {
+    uint64_t parked = 0;
+    for (uint32_t request = count; request-- > 0;) {
+        dspec_path path = dspec_path_begin(&tracer);
+        for (uint32_t step = 0; step < 5; step++) query_in(&path, request, step);
+        parked += dspec_path_key(&path, 7, request) && dspec_path_park(&path);
+    }
+    return parked;
+}
+
+/* Gives back so many bytes of what was taken of the disk: whether there are any. */
+static bool empty_disk(off_t bytes) {
+    struct stat is;
+    return fstat(filler, &is) == 0 && is.st_size >= bytes && ftruncate(filler, is.st_size - bytes) == 0;
+}
+
+/* The keys of parked paths are told as the disk has no more than two pages. Then it gets one after the other, so that there is just enough room at some time. */
+static int how_full_beside_parked(void) {
+    enum { A_PAGE = 4096 };
+    bool is_there;
+    options.park_bytes = 65536;
+    options.park_ms = 3600000;
+    up();
+    printf("parked=%" PRIu64, park(100));
+    fill_disk();
+    if (!empty_disk(2 * A_PAGE)) return 5;
+    for (uint32_t request = 0; request < 100; request++) dspec_tracer_keep_key(&tracer, 7, request);
+    printf(" flush=%d\n", dspec_tracer_flush(&tracer, 60000));
+    if (words[1] == NULL) return end_by_kill();
+    do is_there = dspec_tracer_flush(&tracer, 60000);
+    while (!is_there && empty_disk(A_PAGE));
+    printf("flush=%d\n", is_there);
+    return end_by_kill();
+}
+
 /* It is killed when its second write of packets has ended, which nobody has noted yet: the linker's --wrap leads each write through here. */
 ssize_t __real_write(int file, const void *bytes, size_t len);
 ssize_t __wrap_write(int file, const void *bytes, size_t len);
 static _Atomic int writes_left;
+static size_t least_write = 4096;
 
 ssize_t __wrap_write(int file, const void *bytes, size_t len) {
     const ssize_t count = __real_write(file, bytes, len);
-    if (len >= 4096 && writes_left > 0 && --writes_left == 0) kill(getpid(), SIGKILL);
+    if (len >= least_write && writes_left > 0 && --writes_left == 0) kill(getpid(), SIGKILL);
     return count;
 }
 
@@ -240,6 +287,28 @@ static int how_writes(void) {
         keep(request, 100);
         usleep(1000);
     }
+    return 5;
+}
+
+/* It is killed when the packets of parked paths are written, whose keys were kept, and nobody has noted that. */
+static int how_keeps(void) {
+    options.lanes = 1;
+    options.park_bytes = 65536;
+    options.period_ms = 1000000;
+    up();
+    keep(100, 5);
+    if (!dspec_tracer_flush(&tracer, 600000)) return 5;
+    for (uint32_t request = 0; request < 60; request++) {
+        dspec_path path = dspec_path_begin(&tracer);
+        for (uint32_t step = 0; step < 5; step++) query_in(&path, request, step);
+        dspec_path_key(&path, 7, request);
+        dspec_path_park(&path);
+    }
+    least_write = 1024;
+    writes_left = 1;
+    for (uint32_t request = 0; request < 60; request++)
+        if (request % 3 != 0) dspec_tracer_keep_key(&tracer, 7, request);
+    dspec_tracer_flush(&tracer, 60000);
     return 5;
 }
 
@@ -411,6 +480,7 @@ int main(int count, char **all) {
         { "kept", how_kept }, { "hangs", how_hangs }, { "child", how_child }, { "limit", how_limit }, { "lost", how_lost }, { "full", how_full }, { "writes", how_writes },
         { "moves", how_moves }, { "closes", how_closes }, { "refused", how_refused }, { "itself", how_itself }, { "crashes", how_crashes }, { "owes", how_owes }, { "kinds", how_full_of_kinds },
         { "unmade", how_unmade }, { "elsewhere", how_elsewhere }, { "replaced", how_replaced }, { "held", how_held }, { "parked", how_parked },
+        { "keeps", how_keeps }, { "full_beside_parked", how_full_beside_parked },
     };
     if (count < 3) return 2;
     folder = all[2];

@@ -1,4 +1,4 @@
-/* Texts as fields: each length in each size, put without a byte read behind its end; cuts at a character's border; what a probe reads back is what was recorded, cut; and
+/* Texts as fields: each length in each size, put without a byte read after its end; cuts at a character's border; what a probe reads back is what was recorded, cut; and
  * a trace that says them. The folder is looked at by tests/c/run, which has babeltrace2. */
 #define _GNU_SOURCE
 #include "check.h"
@@ -13,7 +13,7 @@ DSPEC_PROBE(mixed, uint8_t, a, dspec_text8, b, uint16_t, c, dspec_text24, d, boo
 DSPEC_PROBE(most, dspec_text16, a, dspec_text48, b);
 DSPEC_PROBE(largest, dspec_text40, a, dspec_text24, b);
 
-/* A page, and behind it one that nobody may read: texts end where it begins. */
+/* A page, and after it one that nobody may read: texts end where it begins. */
 static char *page_end;
 
 static void make_page(void) {
@@ -191,7 +191,7 @@ static void literals(void) {
     CHECK(dspec_literal(&places, "parse.c") == 0 && dspec_literal(&places, "emit.c") == 1 && dspec_literal(&places, "parse.c") == 0);
 }
 
-/* The lines of a metadata in front of the labels, and behind them; each byte of room that is wanting is only counted. */
+/* The lines of a metadata in front of the labels, and after them; each byte of room that is wanting is only counted. */
 static void labels(void) {
     static const char text[] = "trace {\n\tmajor = 1;\n};\n\nevent {\n\tname = \"reply\";\n\tfields := struct {\n\t\tuint64_t request;\n\t\tuint8_t outcome;\n"
                                "\t\tfloating_point { align = 8; } part;\n\t\tinteger { size = 8; } name[8];\n\t\tinteger { size = 16; } state;\n\t};\n};\n"

@@ -43,7 +43,7 @@ static bool storm;
 static uint64_t crashed_at;
 
 /* How many paths were kept, where a file is named for it: it outlives the process. */
-/* How many paths a keep answered, and behind that the request of each. */
+/* How many paths a keep answered, and after that the request of each. */
 enum { MOST_TOLD = 131072 };
 static _Atomic uint64_t *told;
 
@@ -392,7 +392,7 @@ static void *long_requests(void *unused) {
     return unused;
 }
 
-/* Request 3 and the tenth behind it fit into one speculation and into two; then some of so many records, on this thread and on four. */
+/* Request 3 and the tenth after it fit into one speculation and into two; then some of so many records, on this thread and on four. */
 static int mode_long(void) {
     begin();
     long_request(3, 16);
@@ -441,7 +441,7 @@ static void own_handler(int signal) {
     _exit(50 + signal);
 }
 
-/* A program's own handler comes behind the tracer's. */
+/* A program's own handler comes after the tracer's. */
 static int mode_handler(void) {
     signal(SIGSEGV, own_handler);
     return mode_main();
@@ -469,7 +469,7 @@ static int mode_recover(void) {
         next = dspec_path_begin(&tracer);
         query_in(&next, 1000 + i, 0);
         if (i % 4 >= 2) end_kept(&path, i % 2 == 0);
-        if (!dspec_path_drop(&next)) fail("no path behind a crash");
+        if (!dspec_path_drop(&next)) fail("no path after a crash");
     }
     return end(&tracer);
 }
@@ -561,7 +561,7 @@ static int mode_idle(void) {
     return end(&tracer);
 }
 
-/* Two tracers at once, and one behind another in the same place. */
+/* Two tracers at once, and one after another in the same place. */
 static int mode_two(void) {
     static dspec_tracer other;
     char where[4096];
@@ -590,7 +590,7 @@ static int mode_two(void) {
     return end(&tracer);
 }
 
-/* What was kept until a flush is in the folder when the process is killed behind it. */
+/* What was kept until a flush is in the folder when the process is killed after it. */
 static int mode_flush(void) {
     options.period_ms = 100000;
     begin();

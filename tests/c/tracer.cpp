@@ -138,7 +138,7 @@ int main(int argc, char **argv) {
         check(tracer.flush(std::chrono::seconds(10)), "a flush");
         auto [whole, report] = tracer.stop();
         check(whole && report.accepted == 11 && report.kept == 6 && report.discarded == 4 && report.refused == 0, "what came of it");
-        check(tracer.record(tick, 104u) == DSPEC_STOPPED, "a record behind the stop");
+        check(tracer.record(tick, 104u) == DSPEC_STOPPED, "a record after the stop");
     }
     bool is_refused = false;
     try {

@@ -151,7 +151,7 @@ static void mode_others(void) {
     ended(true);
 }
 
-/* A record on the same lane waits for it for a second, and not until it has left, which it does behind that record alone. */
+/* A record on the same lane waits for it for a second, and not until it has left, which it does after that record alone. */
 static void mode_waits(void) {
     dspec_tracer_report report;
     dspec_path path;
@@ -183,16 +183,20 @@ static void mode_left(void) {
     CHECK(report.no_slot == 0 && report.kept == 1 && report.undecided == 0);
 }
 
-/* ---- A write that stands still: the linker's --wrap leads each one through here. ---- */
+/* ---- A write that stands still, or finds no room: the linker's --wrap leads each one through here. ---- */
 
 ssize_t __real_write(int file, const void *bytes, size_t len);
 ssize_t __wrap_write(int file, const void *bytes, size_t len);
-static _Atomic bool writes_stand, is_writing;
+static _Atomic bool writes_stand, is_writing, is_full;
 
 ssize_t __wrap_write(int file, const void *bytes, size_t len) {
     while (writes_stand && len >= 1024) {
         is_writing = true;
         usleep(1000);
+    }
+    if (is_full && len >= 1024) {
+        errno = ENOSPC;
+        return -1;
     }
     return __real_write(file, bytes, len);
 }
@@ -283,7 +287,7 @@ static void mode_handed(void) {
 
 /* ---- Descriptors, and what the system refuses. ---- */
 
-/* A limit on files, below which nothing is written any more: no flush is true behind that. */
+/* A limit on files, below which nothing is written any more: no flush is true after that. */
 static void mode_limit(void) {
     const struct rlimit none = { 0, 0 };
     begin((dspec_tracer_options){ .period_ms = 100000 });
@@ -413,13 +417,178 @@ static void mode_thread(void) {
     ended(true);
 }
 
+/* ---- A full disk, and more keys of kept paths than may wait until these are written. ---- */
+
+enum { LANES = 12, KEYS_A_LANE = 700, KEY_HIGH = 0xabc, HANGS_AFTER_SECONDS = 300 };
+
+int __real_fallocate(int file, int mode, off_t from, off_t len);
+int __wrap_fallocate(int file, int mode, off_t from, off_t len);
+static _Atomic uint32_t times_told[LANES * KEYS_A_LANE];
+static pthread_barrier_t all_there;
+
+int __wrap_fallocate(int file, int mode, off_t from, off_t len) {
+    if (!is_full) return __real_fallocate(file, mode, from, len);
+    errno = ENOSPC;
+    return -1;
+}
+
+static void note_told(void *unused, uint64_t high, uint64_t low) {
+    (void)unused;
+    if (CHECK(high == KEY_HIGH && low < LANES * KEYS_A_LANE)) times_told[low]++;
+}
+
+/* An open path has the lane stay this thread's, which has room for all of these in one buffer. */
+static void *keeps_keys(void *number) {
+    const uint64_t first = (uint64_t)(uintptr_t)number * KEYS_A_LANE;
+    dspec_path open = dspec_path_begin(&tracer);
+    CHECK(tick_in(&open, first) == DSPEC_OK);
+    pthread_barrier_wait(&all_there);
+    for (uint64_t request = first; request < first + KEYS_A_LANE; request++) {
+        dspec_path path = dspec_path_begin(&tracer);
+        CHECK(query_in(&path, request, 0) == DSPEC_OK && dspec_path_key(&path, KEY_HIGH, request) && dspec_path_keep(&path));
+    }
+    pthread_barrier_wait(&all_there);
+    dspec_path_drop(&open);
+    return NULL;
+}
+
+/* More than 4,096 wait, and as many as that may not be taken. */
+static void keep_on_full_disk(void) {
+    pthread_t threads[LANES];
+    begin((dspec_tracer_options){ .lanes = LANES, .period_ms = 1, .park_bytes = 65536, .survive = true, .on_keep = note_told });
+    CHECK(tick_now(&tracer, 1) == DSPEC_OK && dspec_tracer_flush(&tracer, 60000));
+    is_full = true;
+    MUST(pthread_barrier_init(&all_there, NULL, LANES) == 0 ? DSPEC_OK : DSPEC_NO_MEMORY);
+    for (uintptr_t i = 0; i < LANES; i++) MUST(pthread_create(&threads[i], NULL, keeps_keys, (void *)i) == 0 ? DSPEC_OK : DSPEC_NO_MEMORY);
+    for (size_t i = 0; i < LANES; i++) pthread_join(threads[i], NULL);
+    alarm(HANGS_AFTER_SECONDS);
+}
+
+/* Each key was told once, but for those that were refused. */
+static void are_told(const dspec_tracer_report *report) {
+    uint64_t told = 0, most = 0;
+    for (size_t i = 0; i < LANES * KEYS_A_LANE; i++) {
+        told += times_told[i];
+        if (times_told[i] > most) most = times_told[i];
+    }
+    CHECK(most == 1 && report->kept == LANES * KEYS_A_LANE && told + report->keys_refused == report->kept);
+}
+
+/* The stop ends, and says that it didn't write all. */
+static void mode_full_stop(void) {
+    dspec_tracer_report report;
+    keep_on_full_disk();
+    report = ended(false);
+    are_told(&report);
+    CHECK(report.not_written > 0);
+}
+
+/* The disk has room again: all is written. */
+static void mode_full_for_a_while(void) {
+    dspec_tracer_report report;
+    keep_on_full_disk();
+    is_full = false;
+    CHECK(dspec_tracer_flush(&tracer, 60000));
+    report = ended(true);
+    are_told(&report);
+}
+
+/* ---- Parked paths whose keys are told while the disk is full: they stay in their ring. ---- */
+
+enum { PARKED = 150, MAY_WAIT_MS = 600000 }; /* more than a turn keeps; a flush that waits for so long hangs */
+
+static void tell(uint64_t request) { CHECK(dspec_tracer_keep_key(&tracer, KEY_HIGH, request)); }
+
+static dspec_path with_key(uint64_t request) {
+    dspec_path path = dspec_path_begin(&tracer);
+    CHECK(query_in(&path, request, 0) == DSPEC_OK && dspec_path_key(&path, KEY_HIGH, request));
+    return path;
+}
+
+static void park(uint64_t request) {
+    dspec_path path = with_key(request);
+    CHECK(dspec_path_park(&path));
+}
+
+static dspec_tracer_report counts(void) {
+    dspec_tracer_report report = { 0 };
+    CHECK(dspec_tracer_counts(&tracer, &report));
+    return report;
+}
+
+/* The disk gets full, and then the keys of some that are parked are told. */
+static void begin_parking(dspec_tracer_options options, uint64_t parked, uint64_t keys) {
+    options.survive = true;
+    options.lanes = options.period_ms = 1;
+    begin(options);
+    for (uint64_t request = 0; request < parked; request++) park(request);
+    CHECK(dspec_tracer_flush(&tracer, MAY_WAIT_MS));
+    alarm(HANGS_AFTER_SECONDS);
+    is_full = true;
+    for (uint64_t request = 0; request < keys; request++) tell(request);
+    CHECK(dspec_tracer_flush(&tracer, MAY_WAIT_MS) == (parked == 0));
+}
+
+/* It has room again when the time of their keys has long been over: all of them are written, without a call that would have the consumer look. */
+static void mode_parked_for_a_while(void) {
+    dspec_tracer_report report;
+    begin_parking((dspec_tracer_options){ .park_bytes = 65536, .park_ms = 3600000, .remember_ms = 1 }, PARKED + 5, PARKED);
+    usleep(20000);
+    CHECK(!dspec_tracer_flush(&tracer, MAY_WAIT_MS));
+    report = counts();
+    CHECK(report.park_kept == 0 && report.park_left == PARKED + 5 && report.not_written == 0);
+    is_full = false;
+    while (counts().park_kept < PARKED) usleep(1000);
+    CHECK(dspec_tracer_flush(&tracer, MAY_WAIT_MS) && dspec_tracer_flush(&tracer, MAY_WAIT_MS));
+    park(0); /* nothing waited any more in a turn, so that its key is forgotten */
+    report = ended(true);
+    CHECK(report.park_kept == PARKED && report.park_left == 6 && report.kept == PARKED && report.key_missed == 0);
+}
+
+/* It has none by the stop, which ends and counts them: of each path a record and its event. */
+static void mode_parked_stop(void) {
+    dspec_tracer_report report;
+    begin_parking((dspec_tracer_options){ .park_bytes = 65536 }, PARKED, PARKED);
+    report = ended(false);
+    CHECK(report.park_kept == PARKED && report.park_left == 0 && report.not_written >= 2 * PARKED && report.code == ENOSPC);
+}
+
+/* Newer paths take their room meanwhile: nine places are in a ring of 1,024 bytes. A path that is open as its key is told is kept at its end, as on any disk. */
+static void mode_parked_evicted(void) {
+    dspec_tracer_report report;
+    dspec_path open_path;
+    begin_parking((dspec_tracer_options){ .specsize = 1024, .park_bytes = 1024, .park_ms = 3600000 }, 5, 5);
+    open_path = with_key(PARKED);
+    tell(PARKED);
+    CHECK(!dspec_tracer_flush(&tracer, MAY_WAIT_MS) && dspec_path_park(&open_path));
+    for (uint64_t request = 100; request < 109; request++) park(request);
+    CHECK(!dspec_tracer_flush(&tracer, MAY_WAIT_MS));
+    is_full = false;
+    CHECK(dspec_tracer_flush(&tracer, MAY_WAIT_MS));
+    report = ended(true);
+    CHECK(report.key_missed == 5 && report.park_evicted == 5 && report.park_kept == 0 && report.kept == 1);
+}
+
+/* Or their time is over. */
+static void mode_parked_expired(void) {
+    dspec_tracer_report report;
+    begin_parking((dspec_tracer_options){ .park_bytes = 65536, .park_ms = 100, .remember_ms = 3600000 }, 0, 5);
+    for (uint64_t request = 0; request < 5; request++) park(request);
+    while (counts().park_expired < 5) usleep(1000);
+    is_full = false;
+    CHECK(dspec_tracer_flush(&tracer, MAY_WAIT_MS));
+    report = ended(true);
+    CHECK(report.key_missed == 5 && report.park_expired == 5 && report.park_kept == 0 && report.kept == 0);
+}
+
 static const struct {
     const char *name;
     void (*run)(void);
 } modes[] = {
     { "flush", mode_flush }, { "others", mode_others }, { "waits", mode_waits }, { "left", mode_left }, { "half", mode_half }, { "handed", mode_handed }, { "limit", mode_limit },
     { "stuck", mode_stuck }, { "without", mode_without }, { "closed", mode_closed }, { "closed_bound", mode_closed_bound }, { "closed_survive", mode_closed_survive },
-    { "forbidden", mode_forbidden }, { "thread", mode_thread },
+    { "forbidden", mode_forbidden }, { "thread", mode_thread }, { "full_stop", mode_full_stop }, { "full_for_a_while", mode_full_for_a_while },
+    { "parked_for_a_while", mode_parked_for_a_while }, { "parked_stop", mode_parked_stop }, { "parked_evicted", mode_parked_evicted }, { "parked_expired", mode_parked_expired },
 };
 
 int main(int argc, char **argv) {

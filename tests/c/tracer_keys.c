@@ -48,12 +48,27 @@ static void remembered(void) {
     CHECK(hears(keys, MOST_REMEMBERED, 3, 30) == 0 && keys_refused(keys) == 3 && !has(keys, MOST_REMEMBERED));
     for (uint64_t share = 0; share < SHARES; share++) {
         bool is_well = true;
-        keys_forget(keys, 10 + share + REMEMBERED_MS);
+        keys_forget(keys, 10 + share + REMEMBERED_MS, false);
         for (uint64_t number = 0; number < MOST_REMEMBERED; number++) is_well = is_well && has(keys, number) == (number >= share * SHARE);
         CHECK(is_well && keys_are_any(keys));
     }
-    keys_forget(keys, 10 + SHARES + REMEMBERED_MS);
+    keys_forget(keys, 10 + SHARES + REMEMBERED_MS, false);
     CHECK(!keys_are_any(keys) && hears(keys, 0, SHARE, 5000) == SHARE); /* they are new again */
+    keys_drop(keys);
+}
+
+/* Those that are needed stay when their time is over, but for as many as a turn may hear. */
+static void needed(void) {
+    struct keys *keys = keys_new(REMEMBERED_MS);
+    bool is_well = true;
+    CHECK(hears(keys, 0, MOST_REMEMBERED, 10) == MOST_REMEMBERED);
+    keys_forget(keys, 10 + REMEMBERED_MS, true);
+    CHECK(has(keys, 0)); /* its time isn't over */
+    keys_forget(keys, 11 + REMEMBERED_MS, true);
+    for (uint64_t number = 0; number < MOST_REMEMBERED; number++) is_well = is_well && has(keys, number) == (number >= KEYS_AT_ONCE);
+    CHECK(is_well && hears(keys, MOST_REMEMBERED, KEYS_AT_ONCE, 5000) == KEYS_AT_ONCE && keys_refused(keys) == 0);
+    keys_forget(keys, 5000, false);
+    CHECK(!has(keys, KEYS_AT_ONCE) && has(keys, MOST_REMEMBERED) && hears(keys, 0, 1, 5000) == 1);
     keys_drop(keys);
 }
 
@@ -100,7 +115,7 @@ static void from_threads(void) {
         const size_t many = keys_hear(shared, now, KEYS_AT_ONCE, heard);
         for (size_t i = 0; i < many; i++) is_well = is_well && heard[i].key[0] < THREADS && heard[i].key[1] == next[heard[i].key[0]]++ && heard[i].lane == heard[i].key[0];
         count += many;
-        keys_forget(shared, now + 1);
+        keys_forget(shared, now + 1, false);
     }
     for (size_t i = 0; i < THREADS; i++) pthread_join(threads[i], NULL);
     CHECK(is_well && count == THREADS * PUTS && !keys_are_waiting(shared));
@@ -109,6 +124,7 @@ static void from_threads(void) {
 
 int main(void) {
     remembered();
+    needed();
     waiting();
     same_tag();
     from_threads();

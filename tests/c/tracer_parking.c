@@ -16,6 +16,7 @@
 #include <unistd.h>
 
 DSPEC_PROBE(query, uint64_t, request, uint32_t, step);
+DSPEC_PROBE(large, uint64_t, a, uint64_t, b, uint64_t, c, uint64_t, d, uint64_t, e, uint64_t, f, uint64_t, g); /* 72 bytes in a path */
 
 /* The events by their numbers: the probe's, and the tracer's own as they follow. */
 enum { QUERY = 1, KEPT = 4, COUNTS = 6, PARKED = 10, EVENTS = 10 };
@@ -131,8 +132,8 @@ static void on_keep(void *context, uint64_t high, uint64_t low) {
 }
 
 static void without_folder(void) {
-    char words[4300];
-    snprintf(words, sizeof words, "rm -rf '%.4000s'", folder);
+    char words[8300];
+    snprintf(words, sizeof words, "rm -rf '%.4000s' '%.4000s'.*", folder, folder);
     if (system(words) != 0) exit(2);
 }
 
@@ -228,6 +229,38 @@ static void in_any_order(void) {
     CHECK(atomic_load(&told_keys) == 0 && report.key_missed == 0); /* the program knows them already */
 }
 
+/* Keys that come in the order that goes back in time each time: more of them than a CPU of the folder has files. */
+static void latest_first(void) {
+    enum { PATHS = 100 };
+    uint64_t all[PATHS];
+    begin((dspec_tracer_options){ .lanes = 4, .paths = 4, .park_bytes = 65536 });
+    for (uint64_t request = 1; request <= PATHS; request++) park(request, 3);
+    for (uint64_t request = PATHS; request > 0; request--) {
+        keep(request);
+        flush();
+        all[request - 1] = request;
+    }
+    park(PATHS + 1, 3);
+    keep(PATHS + 1);
+    stop();
+    CHECK(report.park_kept == PATHS + 1 && report.key_missed == 0 && found[PATHS + 1].steps == 7);
+    found[PATHS + 1].records = 0;
+    CHECK(has_alone(all, PATHS, 3));
+}
+
+/* With a bound, of whose folders each has files of its own. Of a folder so many steps back are written that one CPU hasn't the files for them, and two have. */
+static void latest_first_below_a_bound(void) {
+    enum { PATHS = 260 };
+    begin((dspec_tracer_options){ .lanes = 1, .paths = 4, .park_bytes = 65536, .max_bytes = 1900000, .max_folders = 8 });
+    for (uint64_t request = 1; request <= PATHS; request++) park(request, 1);
+    for (uint64_t request = PATHS; request > 0; request--) {
+        keep(request);
+        flush();
+    }
+    CHECK(dspec_tracer_stop(&tracer, &report) && report.park_kept == PATHS && report.not_written == 0 && report.gone_folders == 0);
+    dspec_tracer_drop(&tracer);
+}
+
 /* A path that is kept here has the others of its key kept too, and the program is told of it once. */
 static void kept_here(void) {
     dspec_path path;
@@ -292,6 +325,16 @@ static void without_places(void) {
     stop();
     CHECK(has_alone((const uint64_t[]){ 12, 13, 14, 15, 16, 17, 18, 19, 20 }, 9, 1) && report.park_evicted == 11 && report.park_kept == 9);
     CHECK(report.key_missed == 9); /* of as many as there are places that is remembered beside those that are there */
+}
+
+/* Paths of keys that are remembered have to make room before the consumer comes to them: each of these is told as missed. */
+static void gone_before_it_is_looked_at(void) {
+    begin((dspec_tracer_options){ .lanes = 1, .paths = 2, .park_bytes = 1024, .period_ms = 100000 });
+    for (uint64_t request = 1; request <= 15; request++) keep(request);
+    flush();
+    for (uint64_t request = 1; request <= 15; request++) park(request, 10);
+    stop();
+    CHECK(has_alone((const uint64_t[]){ 13, 14, 15 }, 3, 10) && report.parked == 15 && report.park_kept == 3 && report.park_evicted == 12 && report.key_missed == 12);
 }
 
 /* Paths that made room had been parked for so long at the least. */
@@ -374,6 +417,29 @@ static void cut(void) {
     keep(1);
     stop();
     CHECK(has_alone((const uint64_t[]){ 1 }, 1, 2) && last_told.cut == 1 && report.cut == 1 && report.specdropped == 1 && report.accepted == 2);
+    begin((dspec_tracer_options){ .lanes = 1, .paths = 2, .specsize = 96, .park_bytes = 4096 });
+    park(2, 3);
+    path = path_of(1, 3, true);
+    CHECK(query_in(&path, 1, 3) == DSPEC_DROPPED && dspec_path_park(&path));
+    park(3, 3);
+    keep(1);
+    stop();
+    CHECK(has_alone((const uint64_t[]){ 1 }, 1, 3) && last_told.cut == 1 && report.cut == 1 && report.specdropped == 1);
+}
+
+/* So is one whose first record is longer than a speculation. */
+static void cut_at_once(void) {
+    const dspec_tracer_options options = { .lanes = 1, .paths = 2, .specsize = 64, .park_bytes = 4096 };
+    dspec_path path;
+    without_folder();
+    memset(&tracer, 0, sizeof tracer);
+    CHECK(dspec_tracer_start(&tracer, folder, &options, DSPEC_PROBES(query, large)));
+    path = dspec_path_begin(&tracer);
+    CHECK(large_in(&path, 1, 2, 3, 4, 5, 6, 7) == DSPEC_DROPPED && query_in(&path, 1, 0) == DSPEC_OK);
+    CHECK(dspec_path_key(&path, HIGH, 1) && dspec_path_park(&path));
+    keep(1);
+    CHECK(dspec_tracer_stop(&tracer, &report) && report.park_kept == 1 && report.cut == 1 && report.specdropped == 1);
+    dspec_tracer_drop(&tracer);
 }
 
 /* The bytes of this process that are in memory. */
@@ -646,15 +712,19 @@ int main(int argc, char **argv) {
     if (argc > 2) return all_at_once(argc, argv);
     one_of_many();
     in_any_order();
+    latest_first();
+    latest_first_below_a_bound();
     kept_here();
     not_parked();
     evicted();
     without_places();
+    gone_before_it_is_looked_at();
     held_for();
     expired();
     young_and_old();
     forgotten();
     cut();
+    cut_at_once();
     many();
     full();
     from_elsewhere();

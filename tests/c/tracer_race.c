@@ -1,5 +1,5 @@
 /* The lanes' locks of a tracer, raced: `tracer_race FOLDER SEED [OPTION=NUMBER ..]`. Eight threads share two lanes while a signal's handler yields, spins or
- * sleeps inside their calls; where the processor can step, some calls are interrupted behind each of their instructions. Paths go from thread to thread, and
+ * sleeps inside their calls; where the processor can step, some calls are interrupted after each of their instructions. Paths go from thread to thread, and
  * a thread flushes meanwhile. With alone=1 each thread has a lane of its own, takes no lock, makes plain records inside its paths too, and steps half of its
  * requests, while another thread flushes all the time: then the consumer comes to lanes whose threads are in a call. With forbidden=1 the system refuses
  * membarrier(2) from some time on. Printed are the records of each kept path
@@ -60,7 +60,7 @@ static void on_step(int signal) {
     else sched_yield();
 }
 
-/* From here on, or no longer, the processor traps behind each instruction. */
+/* From here on, or no longer, the processor traps after each instruction. */
 static inline void step(bool is_on) {
 #if defined(__x86_64__)
     if (is_on) __asm__ volatile("pushfq\n\torq $0x100, (%%rsp)\n\tpopfq" ::: "memory", "cc");

@@ -128,7 +128,7 @@ static void refuses(const dspec_tracer_options *options, const dspec_enabling *c
     empty_folder();
 }
 
-/* One that goes well, and leaves nothing behind its drop. */
+/* One that goes well, and leaves nothing after its drop. */
 static void goes_well(const dspec_tracer_options *options, const dspec_enabling *const *events) {
     dspec_tracer tracer = { 0 };
     const long held = blocks;
@@ -249,7 +249,7 @@ int main(int argc, char **argv) {
     if (argc < 2) return 2;
     folder = argv[1];
     nothing();
-    goes_well(NULL, DSPEC_PROBES(p00)); /* the system's own first calls are behind it */
+    goes_well(NULL, DSPEC_PROBES(p00)); /* the system's own first calls are after it */
     options();
     probes();
     folders();

@@ -25,7 +25,7 @@ int LLVMFuzzerTestOneInput(const uint8_t *data, size_t size);
         }                                                               \
     } while (0)
 
-/* An input that is taken piece by piece; behind its end all is 0. */
+/* An input that is taken piece by piece; after its end all is 0. */
 typedef struct input {
     const uint8_t *at;
     size_t left;
@@ -37,7 +37,7 @@ static inline uint64_t take(input *from, size_t bytes) {
     return number;
 }
 
-/* A copy of exactly so many bytes, so that the sanitizer sees a read behind them. */
+/* A copy of exactly so many bytes, so that the sanitizer sees a read after them. */
 static inline uint8_t *copy_of(const uint8_t *bytes, size_t size) {
     uint8_t *copy = malloc(size);
     MUST(copy != NULL || size == 0);

@@ -28,9 +28,10 @@ int LLVMFuzzerInitialize(int *count, char ***words) {
 static void write_file(int file, const void *bytes, size_t size) { MUST(ftruncate(file, 0) == 0 && pwrite(file, bytes, size, 0) == (ssize_t)size); }
 
 /* The layout, what the memory says of the folder, and whether that folder is the run's. */
-static void folder_of(input *from) {
+static uint64_t folder_of(input *from) {
     dspec_folder *folder = &of.tracer->folder;
     char line[64] = "";
+    uint64_t before;
     of.layout = (dspec_layout){ .stamped = true, .enablings = (uint32_t)take(from, 1) % 4 };
     for (uint32_t event = 0; event < of.layout.enablings; event++) {
         of.layout.of[event].fields = (uint8_t)(take(from, 1) % (DSPEC_MAX_FIELDS + 1));
@@ -46,10 +47,11 @@ static void folder_of(input *from) {
     folder->oldest = (uint32_t)take(from, 1);
     folder->kept = (uint32_t)take(from, 1);
     for (size_t i = 0; i < DSPEC_FOLDER_MOST; i++) folder->parts[i].records = i;
-    of.tracer->lanes[0].before = take(from, 8);
+    before = take(from, 8);
     of.head->max_folders = (uint32_t)take(from, 1) & 1;
     line_of(&of, folder->kept > 0 && folder->kept <= DSPEC_FOLDER_MOST && folder->oldest < DSPEC_FOLDER_MOST ? newest_of(folder)->number : 0, line);
     write_file(metadata_at, line, take(from, 1) & 1 ? 0 : strlen(line));
+    return before;
 }
 
 int LLVMFuzzerTestOneInput(const uint8_t *data, size_t size) {
@@ -57,7 +59,7 @@ int LLVMFuzzerTestOneInput(const uint8_t *data, size_t size) {
     found_batch batch = { .kind = FOUND_BROUGHT };
     const dspec_folder *folder = &of.tracer->folder;
     uint64_t unsure, records;
-    folder_of(&from);
+    batch.before = folder_of(&from);
     batch.batch.len = take(&from, 3);
     batch.records = take(&from, 2);
     write_file(files_at, from.at, from.left);

@@ -1,9 +1,11 @@
 use crate::layer::DspecLayer;
+use crate::parking;
 use crate::{consumer, path_id, schema, Guard, Sink};
 use dspec::{Config, Policy, Session};
 use std::fmt;
 use std::io;
 use std::num::NonZero;
+use std::sync::Arc;
 use std::thread;
 use std::time::Duration;
 
@@ -37,6 +39,7 @@ pub struct Builder {
     /// How long a crash waits; not at all where crashes are left alone.
     pub(crate) crashes: Duration,
     pub(crate) keep_last: bool,
+    pub(crate) park: parking::Options,
     open: u32,
     path_bytes: u32,
     stream_bytes: u32,
@@ -65,6 +68,7 @@ impl Builder {
             clock: None,
             crashes: Duration::from_millis(500),
             keep_last: false,
+            park: parking::Options::default(),
             open: SLOTS,
             path_bytes: 8192,
             stream_bytes: 256 * 1024,
@@ -152,6 +156,33 @@ impl Builder {
     /// one session, and there are 5,120 at most.
     pub fn keep_last(mut self) -> Builder {
         self.keep_last = true;
+        self
+    }
+
+    /// Parks paths that aren't kept and whose own span has a field `traceparent`: in so many bytes of memory, counted by the sizes of their lines and texts. The
+    /// oldest ones make room. A parked path comes to the consumer as one that is kept does, so what is parked between two of its rounds has to have room in
+    /// [`Builder::bytes_a_lane`] too.
+    pub fn park(mut self, bytes: usize) -> Builder {
+        self.park.bytes = bytes;
+        self
+    }
+
+    /// How long a path stays parked, at most; ten seconds at first.
+    pub fn park_at_most(mut self, most: Duration) -> Builder {
+        self.park.most = most;
+        self
+    }
+
+    /// How long a trace-id is remembered that was kept; as long as paths stay parked at first.
+    pub fn remember(mut self, time: Duration) -> Builder {
+        self.park.remember = Some(time);
+        self
+    }
+
+    /// What is called with each trace-id of which a path was kept here for another reason than its key: once while it is remembered, by the consumer's thread,
+    /// after the sink has the path and was flushed. The program tells the other processes.
+    pub fn on_keep(mut self, tell: impl Fn(u128) + Send + Sync + 'static) -> Builder {
+        self.park.told = Some(parking::Told(Arc::new(tell)));
         self
     }
 

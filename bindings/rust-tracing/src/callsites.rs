@@ -62,11 +62,11 @@ impl Callsites {
         let first = (address >> 4).wrapping_mul(0x9e37_79b9_7f4a_7c15) >> 52;
         match self.callsites[first % CALLSITES].get() {
             Some(found) if ptr::eq(found.metadata, metadata) => (number_of(first), Some(found)),
-            _ => self.of_behind(first, metadata),
+            _ => self.of_after(first, metadata),
         }
     }
 
-    fn of_behind(&self, first: usize, metadata: &'static Metadata<'static>) -> (u32, Option<&Callsite>) {
+    fn of_after(&self, first: usize, metadata: &'static Metadata<'static>) -> (u32, Option<&Callsite>) {
         for further in 0..CALLSITES {
             let at = (first + further) % CALLSITES;
             let found = self.callsites[at].get_or_init(|| Callsite::new(metadata));

@@ -4,9 +4,10 @@ use crate::exit;
 use crate::lanes::{Kept, Told};
 use crate::layer::{locked, Core, DROPPED, FINISHED};
 use crate::otlp::mixed;
+use crate::parking::{Parked, Parking};
 use crate::path_id::PathId;
 use crate::schema::{CLOSE, ENTER, EVENT, EXIT, HEAD, MORE, OPEN, SET};
-use crate::sink::{Counts, Kind, Line, Missed, Path, Sink};
+use crate::sink::{Counts, Kind, Line, Missed, Path, Sink, Why};
 use crate::values::{read, Held};
 use dspec::{Batch, Record, Session};
 use std::collections::{HashMap, VecDeque};
@@ -40,8 +41,10 @@ pub struct Report {
     pub open: u64,
     /// Records of kept paths that had no room among their path's bytes.
     pub cut: u64,
-    /// Records of kept paths that had no room in the stream. It is `sum.lost`.
+    /// Records of kept and of parked paths that had no room in the stream. It is `sum.lost`.
     pub lost: u64,
+    /// What became of parked paths ([`Builder::park`](crate::Builder::park)).
+    pub parking: Parking,
     /// Records that came without their path: 0 but for a fault of the layer.
     pub stray: u64,
     /// Calls that came when the sessions had ended.
@@ -58,12 +61,12 @@ pub struct Report {
 
 impl Report {
     /// Whether each record that was offered is accounted for: the seven counts make up `offered`, what was accepted came to the consumer, what was lost
-    /// was told with its path, and nothing came without its path.
+    /// was told with its path, nothing came without its path, and each parked path has one end.
     #[must_use]
     pub fn balances(&self) -> bool {
         let sum = &self.sum;
         let fates = sum.accepted + sum.dropped + sum.specdropped + sum.lost + sum.discarded + sum.void + sum.held;
-        sum.offered == fates && sum.accepted == self.taken && sum.lost == self.lost && self.stray == 0
+        sum.offered == fates && sum.accepted == self.taken && sum.lost == self.lost && self.stray == 0 && self.parking.balances()
     }
 }
 
@@ -96,6 +99,17 @@ impl<K: Sink> Guard<K> {
     #[must_use]
     pub fn flush(&self, most: Duration) -> bool {
         self.core.runs() && self.core.flushes.awaited(|| self.core.wake(), most)
+    }
+
+    /// Keeps all paths of a trace-id, which isn't 0: those that are parked, and those that end within [`Builder::remember`](crate::Builder::remember). The consumer does
+    /// it. False: the layer has ended or parks no paths, or 4,096 trace-ids wait, and it isn't done.
+    #[must_use]
+    pub fn keep(&self, trace_id: u128) -> bool {
+        let is_taken = trace_id != 0 && self.core.runs() && self.core.options.park.bytes > 0 && self.core.keys.put(trace_id);
+        if is_taken {
+            self.core.wake();
+        }
+        is_taken
     }
 
     fn end(&mut self, how: u8) -> Option<(K, Report)> {
@@ -139,6 +153,8 @@ pub(crate) fn start<K: Sink + 'static>(mut sessions: Vec<Session>, core: Arc<Cor
             handed: false,
             thrown: 0,
             counted: Counts::default(),
+            parked: Parked::default(),
+            untold: Vec::new(),
             report: Report::default(),
         };
         // What a sink traces isn't traced.
@@ -180,6 +196,9 @@ pub(crate) struct Paths<K> {
     thrown: u64,
     /// What the sink was told last.
     counted: Counts,
+    parked: Parked,
+    /// Keys of paths that were kept here, and that the program wasn't told of yet.
+    untold: Vec<u128>,
     pub(crate) report: Report,
 }
 
@@ -235,10 +254,15 @@ impl<K: Sink> Paths<K> {
                 self.report.lanes.push(report);
             }
         }
+        self.keys();
         self.hand_on(true);
+        self.throw_parked();
         self.tell_counts();
         let answer = self.sink.end();
         self.answered(answer);
+        self.tell_keys();
+        self.report.parking = self.parked.counts;
+        self.report.parking.refused = core.keys.refused();
         self.report.stray = self.lines.values().map(|came| came.records).sum();
         self.report.wanted = core.wanted.load(Ordering::Relaxed);
         self.report.missed = core.missed.load(Ordering::Relaxed);
@@ -277,6 +301,7 @@ impl<K: Sink> Paths<K> {
     /// Whether there was something to do.
     fn round(&mut self, patience: Duration) -> bool {
         let taken = self.report.taken;
+        self.keys();
         let mut busy = self.core.opened.swap(0, Ordering::Relaxed) > 0;
         for number in 0..self.core.lanes.count() {
             busy |= !self.visit(number, patience);
@@ -290,6 +315,7 @@ impl<K: Sink> Paths<K> {
             self.answered(answer);
         }
         self.flush();
+        self.tell_keys();
         self.report.rounds += 1;
         busy || freed || !self.ended.is_empty() || self.report.taken > taken
     }
@@ -363,6 +389,7 @@ impl<K: Sink> Paths<K> {
 
     fn told(&mut self, told: Told) {
         self.thrown += told.thrown;
+        told.unparked.into_iter().for_each(|key| self.parked.never_came(key));
         for kept in told.kept {
             self.ended.push_back(Ended { kept, seen: self.visits.clone() });
         }
@@ -398,10 +425,8 @@ impl<K: Sink> Paths<K> {
         if self.core.now().wrapping_sub(self.counted.stamp) >= COUNTED {
             self.tell_counts();
         }
-        self.report.paths += 1;
-        self.report.cut += kept.cut;
         self.report.lost += lost;
-        let path = Path {
+        let mut path = Path {
             id: kept.path.raw(),
             number: kept.path.number(self.core.sessions()),
             thread: kept.thread,
@@ -417,8 +442,77 @@ impl<K: Sink> Paths<K> {
             lines,
             seed: self.seed,
         };
-        let answer = self.sink.path(&path);
+        if !kept.parks {
+            self.hand(&path, kept.key);
+        } else if self.core.keys.has(kept.key) {
+            self.parked.came_to_its_key();
+            path.why.key = true;
+            self.hand(&path, kept.key);
+        } else {
+            let options = &self.core.options.park;
+            let thrown = self.parked.gone();
+            self.parked.park(path, kept.key, options.bytes, options.most);
+            self.thrown += self.parked.gone() - thrown;
+        }
+    }
+
+    /// Hands a path to the sink. Its key is kept from now on, where it is kept for another reason.
+    fn hand(&mut self, path: &Path, key: u128) {
+        self.report.paths += 1;
+        self.report.cut += path.cut;
+        let answer = self.sink.path(path);
         self.answered(answer);
+        if key != 0 && !path.why.key && self.is_new(key) {
+            self.untold.push(key);
+            self.keep_parked(key);
+        }
+    }
+
+    // ---- Parked paths and their keys. ----
+
+    /// Remembers a key: whether it wasn't remembered.
+    fn is_new(&self, key: u128) -> bool {
+        let options = &self.core.options.park;
+        self.core.keys.remember(key, options.remember.unwrap_or(options.most))
+    }
+
+    fn keep_parked(&mut self, key: u128) {
+        for mut path in self.parked.take(key) {
+            path.why = Why { key: true, ..Why::default() };
+            self.hand(&path, key);
+        }
+    }
+
+    /// Parked paths whose time is over go, and those are kept whose keys came.
+    fn keys(&mut self) {
+        let core = self.core.clone();
+        if core.options.park.bytes == 0 {
+            return;
+        }
+        let thrown = self.parked.gone();
+        self.parked.expire();
+        self.thrown += self.parked.gone() - thrown;
+        core.keys.forget();
+        for key in core.keys.heard() {
+            if self.is_new(key) {
+                self.keep_parked(key);
+            }
+        }
+    }
+
+    /// Tells the program of keys that were kept here.
+    fn tell_keys(&mut self) {
+        let core = self.core.clone();
+        for key in std::mem::take(&mut self.untold) {
+            if let Some(told) = &core.options.park.told {
+                (told.0)(key);
+            }
+        }
+    }
+
+    /// Of a layer that ends: what is parked still is thrown away.
+    fn throw_parked(&mut self) {
+        self.thrown += self.parked.counts.left;
     }
 
     fn batch(&mut self, batch: &Batch<'_>) {

@@ -41,6 +41,9 @@ pub(crate) struct Kept {
     /// The threads on which it began and was decided; 0 for the consumer.
     pub(crate) thread: u32,
     pub(crate) by: u32,
+    /// Its key, or 0; and whether it is parked, and not kept.
+    pub(crate) key: u128,
+    pub(crate) parks: bool,
 }
 
 /// A path that went missing, and would have been kept.
@@ -61,6 +64,8 @@ pub(crate) struct Told {
     pub(crate) wanted: Vec<Wanted>,
     /// How many paths were thrown away.
     pub(crate) thrown: u64,
+    /// The keys of those of them that were to be parked, where the consumer was too far behind.
+    pub(crate) unparked: Vec<u128>,
 }
 
 #[derive(Debug)]

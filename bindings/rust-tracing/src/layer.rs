@@ -3,6 +3,7 @@ use crate::callsites::Callsites;
 use crate::crash;
 use crate::flushes::Flushes;
 use crate::lanes::{Kept, Lanes, Wanted, NOTED};
+use crate::parking::{KeyOf, Keys};
 use crate::path_id::{PathId, SLOTS};
 use crate::schema::{CLOSE, ENTER, EVENT, EXIT, OPEN, SET};
 use crate::sink::Why;
@@ -18,6 +19,7 @@ use std::sync::atomic::{AtomicBool, AtomicU32, AtomicU64, AtomicU8, Ordering};
 use std::sync::{Arc, Mutex, MutexGuard, OnceLock, PoisonError};
 use std::thread::{self, Thread};
 use std::time::{Duration, Instant, SystemTime};
+use tracing_core::field::FieldSet;
 use tracing_core::span::{Attributes, Id, Record};
 use tracing_core::{dispatcher, Event, Level, Subscriber};
 use tracing_subscriber::layer::{Context, Layer};
@@ -58,11 +60,21 @@ pub(crate) struct State {
     /// The last path of this slot that was decided.
     closed: PathId,
     pub(crate) why: Why,
+    /// The trace-id of its own span, where paths are parked; 0: it has none.
+    pub(crate) key: u128,
     /// The first ERROR.
     held: Option<Box<Held>>,
     /// Of a path without a slot: when it began, and the callsite of its span.
     pub(crate) begun: u64,
     pub(crate) callsite: u32,
+}
+
+/// What was noted of a path by its end.
+#[derive(Debug, Default)]
+struct Noted {
+    why: Why,
+    key: u128,
+    held: Option<Box<Held>>,
 }
 
 /// On cache lines of its own.
@@ -154,6 +166,7 @@ pub(crate) struct Core {
     /// Of each session, its consumer; none when the sessions have ended. Nobody who has them waits.
     pub(crate) consumers: Mutex<Vec<Consumer>>,
     pub(crate) flushes: Flushes,
+    pub(crate) keys: Keys,
     /// Nanoseconds since 1970 began, where the layer's clock is 0.
     pub(crate) unix: u64,
     pub(crate) layer: u32,
@@ -304,6 +317,18 @@ impl Core {
         true
     }
 
+    /// Notes the key of a path that may be parked, by the fields of its own span.
+    fn note_key(&self, path: PathId, fields: &FieldSet, visit: impl FnOnce(&mut KeyOf)) {
+        let mut key = KeyOf::default();
+        if self.options.park.bytes == 0 || fields.field("traceparent").is_none() {
+            return;
+        }
+        visit(&mut key);
+        if key.0 != 0 {
+            self.note(path, |state| state.key = key.0);
+        }
+    }
+
     /// An ERROR in a path. Whether it is held back until the path is decided.
     #[cold]
     #[inline(never)]
@@ -323,9 +348,9 @@ impl Core {
     }
 
     /// Nothing is noted of the path from now on. What was; none where that was asked before.
-    fn close(&self, path: PathId) -> Option<(Why, Option<Box<Held>>)> {
+    fn close(&self, path: PathId) -> Option<Noted> {
         if !path.has_slot() {
-            return locked(self.part(path)).remove(&path).map(|state| (state.why, None));
+            return locked(self.part(path)).remove(&path).map(|state| Noted { why: state.why, key: state.key, held: None });
         }
         let mut state = locked(&self.slots[path.place()].state);
         if state.closed >= path {
@@ -333,7 +358,7 @@ impl Core {
         }
         let noted = std::mem::replace(&mut *state, State { path, closed: path, ..State::default() });
         self.undecided[path.session()].fetch_sub(1, Ordering::Relaxed);
-        Some(if noted.path == path { (noted.why, noted.held) } else { (Why::default(), None) })
+        Some(if noted.path == path { Noted { why: noted.why, key: noted.key, held: noted.held } } else { Noted::default() })
     }
 
     /// The number of a new span.
@@ -378,9 +403,11 @@ impl Core {
     pub(crate) fn decide(&self, here: &Here, stamp: u64, open: bool) {
         let Place { path, span, .. } = here.place;
         let took = stamp.saturating_sub(here.begun);
-        let Some((mut why, held)) = self.close(path) else { return };
+        let Some(Noted { mut why, key, held }) = self.close(path) else { return };
         why.slow = self.options.slow.is_some_and(|slow| took > nanoseconds(slow));
+        why.key = why == Why::default() && key != 0 && self.keys.has(key);
         let kept = why != Why::default();
+        let waits = !kept && !open && key != 0 && path.has_slot();
         self.lanes.on_one(|lane| {
             let behind = lane.told.kept.len() >= NOTED;
             if kept && (!path.has_slot() || behind) {
@@ -392,11 +419,14 @@ impl Core {
             if !path.has_slot() {
                 return;
             }
-            if !kept || behind {
+            if !(kept || waits) || behind {
                 self.parts(path).0.for_each(|part| lane.discard(path.session(), part));
                 self.missed.fetch_add(u64::from(kept), Ordering::Relaxed);
                 self.unended.fetch_add(u64::from(open && !kept), Ordering::Relaxed);
                 lane.told.thrown += u64::from(!kept);
+                if waits && lane.told.unparked.len() < NOTED {
+                    lane.told.unparked.push(key);
+                }
                 return;
             }
             // Of a path that is thrown away nobody asks when it ended.
@@ -422,10 +452,24 @@ impl Core {
             let thread = slot.thread.load(Ordering::Relaxed);
             // What is open is decided by the consumer.
             let by = if open { 0 } else { dspec::thread_number() };
-            let kept = Kept { path, callsite: here.callsite, begun: here.begun, took, why, open, records, cut, held, thread, by };
+            let kept = Kept {
+                path,
+                callsite: here.callsite,
+                begun: here.begun,
+                took,
+                why,
+                open,
+                records,
+                cut,
+                held,
+                thread,
+                by,
+                key,
+                parks: waits,
+            };
             lane.told.kept.push(kept);
         });
-        if kept {
+        if kept || waits {
             self.wake_from_rest();
         }
     }
@@ -466,6 +510,7 @@ impl DspecLayer {
             consumer: OnceLock::new(),
             consumers: Mutex::default(),
             flushes: Flushes::default(),
+            keys: Keys::default(),
             unix: 0,
             layer,
             watch: crash::watch(options.crashes),
@@ -559,6 +604,9 @@ where
         if gathering.keep && path != PathId::NONE {
             core.note(path, |state| state.why.asked = true);
         }
+        if root && path != PathId::NONE {
+            core.note_key(path, metadata.fields(), |key| attributes.record(key));
+        }
         let here = Here { place, root: root && path != PathId::NONE, begun: stamp, callsite: gathering.values.callsite() };
         if !core.open_spans.put(id.into_u64(), &here) {
             if let Some(span) = ctx.span(id) {
@@ -580,6 +628,9 @@ where
         gathering.end();
         if gathering.keep && path != PathId::NONE {
             core.note(path, |state| state.why.asked = true);
+        }
+        if here.root {
+            core.note_key(path, span.metadata().fields(), |key| record.record(key));
         }
         core.put_values(&mut gathering.values, here.place, SET, core.now());
     }
@@ -768,7 +819,7 @@ mod tests {
         let core = Arc::clone(&layer.core);
         for path in [core.open(0, 0), core.open_without_slot(0, 0)] {
             assert!(core.note(path, |state| state.why.failed = true));
-            assert!(core.close(path).unwrap().0.failed);
+            assert!(core.close(path).unwrap().why.failed);
             assert!(!core.note(path, |state| state.why.failed = true));
             assert!(core.close(path).is_none());
         }

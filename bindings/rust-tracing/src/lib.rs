@@ -32,6 +32,13 @@
 //! first ERROR is held back and stands after the rest, so that it is there however long the path was. What had no room is counted
 //! in [`Path::cut`] and [`Path::lost`]. An event has up to 12 fields and 240 bytes of texts that the program made; a text that was cut says how long it was.
 //!
+//! # Across processes
+//!
+//! A request may fail in one process when others have answered it already. With [`Builder::park`] a path that isn't kept, and whose own span has a field
+//! `traceparent` (W3C's header), is parked instead of being thrown away: the consumer has it in memory, within so many bytes, and no [`Sink`] gets it.
+//! [`Guard::keep`] keeps all paths of a trace-id: those that are parked, and those that are open or begin within [`Builder::remember`].
+//! [`Builder::on_keep`] tells the program of each trace-id of which a path was kept here. How the processes tell each other is the program's.
+//!
 //! # What stays of a path that isn't kept
 //!
 //! Its records stay in a buffer of the layer's until that is written again; nothing reads them. Literals of the program are known by number
@@ -57,6 +64,7 @@ mod lanes;
 mod layer;
 mod offer;
 mod otlp;
+mod parking;
 mod path_id;
 mod schema;
 mod sink;
@@ -72,5 +80,6 @@ pub use consumer::{Guard, Report};
 pub use ctf::Ctf;
 pub use layer::{keep, DspecLayer};
 pub use otlp::Otlp;
+pub use parking::Parking;
 pub use sink::{each, Counts, Each, Kind, Line, Missed, Path, Sink, Span, Value, Why};
 pub use text::Text;

@@ -160,7 +160,7 @@ fn left_out(metadata: Option<&'static Metadata<'static>>) -> usize {
 }
 
 /// Trace, calling span and flags of a `traceparent`; none where it isn't one.
-fn of_header(header: &str) -> Option<(&str, &str, u32)> {
+pub(crate) fn of_header(header: &str) -> Option<(&str, &str, u32)> {
     let mut parts = header.split('-');
     let (version, trace, span, flags) = (parts.next()?, parts.next()?, parts.next()?, parts.next()?);
     let hexadecimal =

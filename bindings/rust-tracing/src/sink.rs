@@ -161,13 +161,21 @@ pub struct Why {
     pub panicked: bool,
     /// A thread that was in it crashed, or the process was killed by such a signal.
     pub crashed: bool,
+    /// Nothing of that holds, and its key is kept ([`Guard::keep`](crate::Guard::keep)).
+    pub key: bool,
 }
 
 impl fmt::Display for Why {
     /// The words that hold, with spaces between them.
     fn fmt(&self, f: &mut fmt::Formatter<'_>) -> fmt::Result {
-        let words =
-            [(self.failed, "failed"), (self.slow, "slow"), (self.asked, "asked"), (self.panicked, "panicked"), (self.crashed, "crashed")];
+        let words = [
+            (self.failed, "failed"),
+            (self.slow, "slow"),
+            (self.asked, "asked"),
+            (self.panicked, "panicked"),
+            (self.crashed, "crashed"),
+            (self.key, "key"),
+        ];
         let words: Vec<_> = words.iter().filter(|word| word.0).map(|word| word.1).collect();
         f.write_str(&words.join(" "))
     }

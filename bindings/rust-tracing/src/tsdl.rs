@@ -51,11 +51,18 @@ const OWN: [(&str, &[&str]); 6] = [
 ];
 
 /// Why a path is kept: the tracer's numbers, and a reason of this layer's own.
-const WHYS: [&str; 9] = ["kept", "failed", "slow", "asked", "sampled", "crash", "undecided", "signal", "panicked"];
+const WHYS: [&str; 10] = ["kept", "failed", "slow", "asked", "sampled", "crash", "undecided", "signal", "key", "panicked"];
 
 /// The number of the reason that comes first.
 pub(crate) fn number_of(why: Why) -> u32 {
-    let reasons = [(why.crashed, "crash"), (why.panicked, "panicked"), (why.failed, "failed"), (why.slow, "slow"), (why.asked, "asked")];
+    let reasons = [
+        (why.crashed, "crash"),
+        (why.panicked, "panicked"),
+        (why.failed, "failed"),
+        (why.slow, "slow"),
+        (why.asked, "asked"),
+        (why.key, "key"),
+    ];
     let first = reasons.iter().find(|reason| reason.0).map_or("kept", |reason| reason.1);
     WHYS.iter().zip(0..).find(|label| *label.0 == first).map_or(0, |label| label.1)
 }

@@ -108,17 +108,17 @@ impl<'a> Gathering<'a> {
     /// For an event, or for what a span is given later.
     #[inline]
     pub(crate) fn new(callsites: &'a Callsites, metadata: &'static Metadata<'static>) -> Gathering<'a> {
-        Gathering::behind(HEAD, callsites, metadata)
+        Gathering::after(HEAD, callsites, metadata)
     }
 
     /// For a span that begins.
     #[inline]
     pub(crate) fn of_span(callsites: &'a Callsites, metadata: &'static Metadata<'static>) -> Gathering<'a> {
-        Gathering::behind(HEAD + 1, callsites, metadata)
+        Gathering::after(HEAD + 1, callsites, metadata)
     }
 
     #[inline]
-    fn behind(front: usize, callsites: &'a Callsites, metadata: &'static Metadata<'static>) -> Gathering<'a> {
+    fn after(front: usize, callsites: &'a Callsites, metadata: &'static Metadata<'static>) -> Gathering<'a> {
         let (number, callsite) = callsites.of(metadata);
         let types = callsite.map_or(UNNUMBERED, |callsite| callsite.unnumbered);
         let values = Values { shape: number << 4, types, row: [0; ROW], front, used: front, texts: None };
@@ -373,8 +373,8 @@ pub(crate) fn read(callsites: &Callsites, shape: u32, words: &[u64], mut with: i
     let mut rest = &bytes[..];
     for (field, kind, word) in fields {
         let length = if kind == TEXT { (word & 0xffff).min(rest.len() as u64) } else { 0 };
-        let (text, behind) = rest.split_at(usize::try_from(length).unwrap_or(0));
-        rest = behind;
+        let (text, after) = rest.split_at(usize::try_from(length).unwrap_or(0));
+        rest = after;
         with(field, value_of(callsite, kind, word, text));
     }
 }
@@ -470,8 +470,8 @@ impl Visit for Gathering<'_> {
 /// The EPID that many after the first of its kind.
 #[inline]
 #[allow(clippy::cast_possible_truncation)] // there are 64 at most
-fn nth(first: u32, behind: usize) -> u32 {
-    first + behind as u32
+fn nth(first: u32, after: usize) -> u32 {
+    first + after as u32
 }
 
 #[cfg(test)]

@@ -196,10 +196,10 @@ fn packets(mut bytes: &[u8], uuid: &str, classes: &[Class]) -> Vec<Packet> {
         // Whole pages: events, and zeros after them.
         assert!(content % 8 == 0 && content <= size && size % (8 * 4096) == 0 && begin >= last);
         let front = whole - bytes.len();
-        let (packet, behind) = bytes.split_at(usize::try_from(size / 8).unwrap() - front);
+        let (packet, after) = bytes.split_at(usize::try_from(size / 8).unwrap() - front);
         let (mut rest, zeros) = packet.split_at(usize::try_from(content / 8).unwrap() - front);
         assert!(zeros.len() < 4096 && zeros.iter().all(|byte| *byte == 0));
-        bytes = behind;
+        bytes = after;
         let mut events = Vec::new();
         last = begin;
         while !rest.is_empty() {
@@ -232,7 +232,7 @@ fn is_kept(event: &Event, path: &Path) {
     assert_eq!(names, ["thread", "by", "cut", "why", "begun", "key_high", "key_low"]);
     let why = match path.why {
         Why { crashed: true, .. } => 5,
-        Why { panicked: true, .. } => 8,
+        Why { panicked: true, .. } => 9,
         Why { failed: true, .. } => 1,
         Why { slow: true, .. } => 2,
         _ => 3,
@@ -421,7 +421,7 @@ fn sixty_four_files() {
 
 /// What had no room, and what was missed, stands beside what is there.
 #[test]
-fn a_cut_path_behind_a_missed_one() {
+fn a_cut_path_after_a_missed_one() {
     let folder = folder("cut");
     let (all, report) = written(&folder, Builder::new().paths_at_once(1).bytes_a_path(96), || {
         let kept = info_span!("kept");

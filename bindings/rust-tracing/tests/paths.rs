@@ -261,7 +261,7 @@ fn spans_left_out_of_order() {
 
 /// What comes when the guard has gone is counted as late.
 #[test]
-fn behind_the_end() {
+fn after_the_end() {
     let (dispatch, guard) = made(Builder::new());
     tracing::dispatcher::with_default(&dispatch, || {
         let open = info_span!("request", request = 1u64);

@@ -302,7 +302,7 @@ fn otlp() {
 
 /// What was dropped stands beside what is there.
 #[test]
-fn otlp_of_a_cut_path_behind_a_missed_one() {
+fn otlp_of_a_cut_path_after_a_missed_one() {
     let (layer, guard) = Builder::new().paths_at_once(1).lanes(1).bytes_a_path(96).build(Otlp::new(Vec::new(), "orders")).unwrap();
     tracing::subscriber::with_default(tracing_subscriber::registry().with(layer), || {
         let kept = info_span!("kept");

@@ -285,7 +285,7 @@ fn a_path_that_is_left_is_thrown_away() {
     let panicked = std::panic::catch_unwind(std::panic::AssertUnwindSafe(|| {
         let mut path = cpu.path();
         path.record(epid, 0, &[1]).unwrap();
-        panic!("behind a step");
+        panic!("after a step");
     }));
     assert!(panicked.is_err());
     assert_eq!(cpu.report().discarded, 101);

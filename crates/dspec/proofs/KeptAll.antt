@@ -44,4 +44,4 @@ module _ (e : EnabledRows) where
       let one = one_reading (table_shape e.header (enabled e.rows)) (table_accepts e.header (enabled e.rows)) (table_text e.header (enabled e.rows)) laws
       0 x.batch.buffer.text added.added held added.is_text has in
       kept_all xs m new more went none (All-tail (λ (p : Passed). p.from < 1) x xs from) rest holds
-      ∙ (ap (λ rs. rs ++ more) added.behind ∙ (append_assoc old.records added.added more ∙ ap (λ rs. old.records ++ rs) (ap (λ a. a ++ more) one ∙ sym is)))
+      ∙ (ap (λ rs. rs ++ more) added.grown ∙ (append_assoc old.records added.added more ∙ ap (λ rs. old.records ++ rs) (ap (λ a. a ++ more) one ∙ sym is)))

@@ -1,6 +1,6 @@
 pub mod KeptAll
 mod LastPaths
-mod LeftBehind
+mod LeftAfter
 pub mod Passing
 pub mod Returning
 pub mod Serving

@@ -18,9 +18,9 @@ pub record Settled (x y : CallsMade) : Type 0 where
   pub worn : y.worn ≡ x.worn
 
 -- more settlements, and those after them
-pub settled_behind : (more : List (Speculation × DecideFate)) (x y : CallsMade) (s : Settled x y)
+pub settled_after : (more : List (Speculation × DecideFate)) (x y : CallsMade) (s : Settled x y)
     → settled_did more ++ y.done ≡ settled_did (more ++ s.settled) ++ x.done
-settled_behind more x y s =
+settled_after more x y s =
     ap (λ ds. settled_did more ++ ds) s.done
     ∙ (sym (append_assoc (settled_did more) (settled_did s.settled) x.done)
     ∙ ap (λ ds. ds ++ x.done) (sym (map-append (λ (one : Speculation × DecideFate). emptied service one.0 one.1) more s.settled)))
@@ -36,6 +36,6 @@ settled_by (suc n) x y (mid, before, (answer, one)) =
     let earlier = settled_by n x mid before in
     record {
       settled = one.settled ++ earlier.settled;
-      done = ap (λ (z : CallsMade). z.done) one.after ∙ settled_behind one.settled x mid earlier;
+      done = ap (λ (z : CallsMade). z.done) one.after ∙ settled_after one.settled x mid earlier;
       worn = ap (λ (z : CallsMade). z.worn) one.after ∙ earlier.worn;
     }

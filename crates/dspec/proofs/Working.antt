@@ -53,7 +53,7 @@ module _ {W : Type 0} where
           let done : WorkedBy (does (schema_of was.cpu)) (workers_of old) (workers_of new) (number_in was.cpu) (called was.cpu) one.did.returned = record {
             before = was.worker;
             was = ap (λ n. slice_get (workers_of old) n) number ∙ there_is_of (λ (x : Working W). x.worker) old c was before;
-            behind = p.worker;
+            after = p.worker;
             is = ap (λ n. slice_get (workers_of new) n) number ∙ there_is_of (λ (x : Working W). x.worker) new c p there;
             did = one.did.worked;
           } in

@@ -30,7 +30,7 @@ module _ (e : EnabledRows) where
   pub record AddsText (text : List ℕ) (before after : List Record) : Type 0 where
     pub added : List Record
     pub is_text : BufferText (table_shape e.header (enabled e.rows)) (table_accepts e.header (enabled e.rows)) (table_text e.header (enabled e.rows)) 0 text added
-    pub behind : after ≡ before ++ added
+    pub grown : after ≡ before ++ added
 
   -- why the records of a batch weren't kept: it has a text that stops there, or memory was wanting
   abbrev pub IsRecordSinkFault : Batch → RecordSinkFault → Type 0

@@ -11,9 +11,9 @@ with_cpus n k = record k { cpus = n }
 pub record WorkedBy {W : Type 0} (does : ℕ → W → CallsMade → W → CallsMade → Type 0) (old new : List W) (c : ℕ) (x y : CallsMade) : Type 0 where
   pub before : W
   pub was : slice_get old c ≡ Some before
-  pub behind : W
-  pub is : slice_get new c ≡ Some behind
-  pub did : does c before x behind y
+  pub after : W
+  pub is : slice_get new c ≡ Some after
+  pub did : does c before x after y
 
 -- a configuration of as many CPUs as there are workers
 abbrev pub one_for : {W : Type 0} → List W → Config → Config

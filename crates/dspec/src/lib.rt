@@ -29,7 +29,7 @@
 //! | `specs/`: Passed, SinkRecords | what a sink got of a session, chained call by call, and how that is what each CPU accepted (`HasLists`); what `RecordSink` keeps |
 //! | `specs/`: Workers | what a worker did on the CPU of its place (`WorkedBy`), and pairs of both |
 //! | `specs/`: Traced, Serving, Visits | `IsTraced`: the work that was done, and the page; `ThenServed`: services after a work; what the consumer does in a round |
-//! | `proofs/` | Returning (with all CPUs and the consumer back it is a session again), Passing (lists of what is passed), Tracing (the whole), Standing, LeftBehind (one CPU more of those left), Visiting, Working (CPUs and workers in pairs, and apart again), Serving (what services after a work settled) |
+//! | `proofs/` | Returning (with all CPUs and the consumer back it is a session again), Passing (lists of what is passed), Tracing (the whole), Standing, LeftAfter (one CPU more of those left), Visiting, Working (CPUs and workers in pairs, and apart again), Serving (what services after a work settled) |
 #![tactic(auto)]
 
 mod bad_record;

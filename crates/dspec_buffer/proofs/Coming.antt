@@ -1,7 +1,7 @@
 -- How far a reader has come: the bytes before it are the text of the records that it has read.
 use Rattle.std.proofs.Common.{◌≡◌, ◌+◌, ◌++◌, ℕ, Bool, Option, List, [], ◌∷◌, length, take, drop, refl, sym, ap, subst, ◌∙◌, arith, length-append, append_assoc}
 use Rattle.std.proofs.lemmas.{Bool.Decides.nat_tests, List.append-nil, List.take-append-drop, List.length-take-le, List.take_at, List.take_all}
-use Rattle.dspec_buffer.specs.{Words.Record, Words.BufferText, Words.StopsAt, Words.StopsBehind, Words.HasRead, Words.NextIs, Words.FaultIs, Words.Shape, declared.read_fault.ReadFault.ReadFault}
+use Rattle.dspec_buffer.specs.{Words.Record, Words.BufferText, Words.StopsAt, Words.StopsAfter, Words.HasRead, Words.NextIs, Words.FaultIs, Words.Shape, declared.read_fault.ReadFault.ReadFault}
 use Rattle.dspec_buffer.proofs.{Gluing.glued, SchemaLaws.SchemaLaws}
 
 module _ (shape : ℕ → Option Shape) (accepted : Record → Bool) (text : Record → List ℕ) (laws : SchemaLaws shape accepted text) where
@@ -34,7 +34,7 @@ module _ (shape : ℕ → Option Shape) (accepted : Record → Bool) (text : Rec
   stops b o fault h f = grind (arith, nat_tests, length-take-le, take-append-drop)
 
   -- and what it has read are the whole records before the fault
-  pub stops_behind : (b : List ℕ) (o : ℕ) (fault : ReadFault) → (h : HasRead shape accepted text b o) → FaultIs shape accepted text b o fault
-      → StopsBehind shape accepted text b h.read fault
+  pub stops_after : (b : List ℕ) (o : ℕ) (fault : ReadFault) → (h : HasRead shape accepted text b o) → FaultIs shape accepted text b o fault
+      → StopsAfter shape accepted text b h.read fault
   unfolding stops
-  stops_behind b o fault h f = (stops b o fault h f, refl)
+  stops_after b o fault h f = (stops b o fault h f, refl)

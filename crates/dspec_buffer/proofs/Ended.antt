@@ -1,8 +1,8 @@
 -- A reader that has come to a text's end or first fault: the records up to there are all of the text, or those before the fault.
 use Rattle.std.proofs.Common.{◌≡◌, ℕ, Bool, Option, Some, None, IfSome, IfNone, List, take, subst, arith}
 use Rattle.std.proofs.lemmas.Bool.Decides.{nat_tests}
-use Rattle.dspec_buffer.specs.{Words.Record, Words.BufferText, Words.StopsBehind, Words.HasRead, Words.EndsAt, Words.Remaining, Words.Shape, declared.read_fault.ReadFault.ReadFault}
-use Rattle.dspec_buffer.proofs.{Coming.reads_all, Coming.stops_behind, Left.remaining_at_start, SchemaLaws.SchemaLaws}
+use Rattle.dspec_buffer.specs.{Words.Record, Words.BufferText, Words.StopsAfter, Words.HasRead, Words.EndsAt, Words.Remaining, Words.Shape, declared.read_fault.ReadFault.ReadFault}
+use Rattle.dspec_buffer.proofs.{Coming.reads_all, Coming.stops_after, Left.remaining_at_start, SchemaLaws.SchemaLaws}
 
 module _ (shape : ℕ → Option Shape) (accepted : Record → Bool) (text : Record → List ℕ) (laws : SchemaLaws shape accepted text) where
   has_read : (b : List ℕ) (o : ℕ) (end : Option ReadFault) → EndsAt shape accepted text b o end → HasRead shape accepted text b o
@@ -24,7 +24,7 @@ module _ (shape : ℕ → Option Shape) (accepted : Record → Bool) (text : Rec
   ended_whole b o (Some fault) m e = tt
 
   pub ended_at_fault : (b : List ℕ) (o : ℕ) (end : Option ReadFault) (m : Remaining shape accepted text (take o b) 0) → EndsAt shape accepted text b o end
-      → IfSome end (λ fault. StopsBehind shape accepted text b m.0 fault)
+      → IfSome end (λ fault. StopsAfter shape accepted text b m.0 fault)
   ended_at_fault b o None m e = tt
   ended_at_fault b o (Some fault) m e =
-      subst (λ rs. StopsBehind shape accepted text b rs fault) (same_read b o e.0 m) (stops_behind shape accepted text laws b o fault e.0 e.1)
+      subst (λ rs. StopsAfter shape accepted text b rs fault) (same_read b o e.0 m) (stops_after shape accepted text laws b o fault e.0 e.1)

@@ -53,9 +53,9 @@ module _ (shape : ℕ → Option Shape) (accepted : Record → Bool) (text : Rec
       )
 
   -- a text of some records may stand after a gap
-  pub behind_gap : (o : ℕ) (gap x : List ℕ) (r : Record) (rs : List Record) → IsGap o gap → BufferText shape accepted text (o + length gap) x (r ∷ rs)
+  pub after_gap : (o : ℕ) (gap x : List ℕ) (r : Record) (rs : List Record) → IsGap o gap → BufferText shape accepted text (o + length gap) x (r ∷ rs)
       → BufferText shape accepted text o (gap ++ x) (r ∷ rs)
-  behind_gap = grind (arith, nat_tests)
+  after_gap = grind (arith, nat_tests)
 
   -- the text of one record, at a multiple of its alignment
   pub alone : (o : ℕ) (r : Record) → IsTrue (accepted r) → o % align_of shape r ≡ 0 → BufferText shape accepted text o (text r) (r ∷ [])

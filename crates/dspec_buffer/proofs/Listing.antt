@@ -16,14 +16,14 @@ module _ (shape : ℕ → Option Shape) (accepted : Record → Bool) (text : Rec
 
   pub listed : (b b' : ListView) (p : Piece) (ps : List Piece) → HasListed shape accepted text b ps → Grows b b' p ps → HasListed shape accepted text b' (p ∷ ps)
   listed b b' p ps h k =
-      let behind : flat_map text (reverse (records ps) ++ reverse (records_of p)) ≡ flat_map text (reverse (records ps)) ++ flat_map text (reverse (records_of p)) =
+      let after : flat_map text (reverse (records ps) ++ reverse (records_of p)) ≡ flat_map text (reverse (records ps)) ++ flat_map text (reverse (records_of p)) =
       flat_map-append text (reverse (records ps)) (reverse (records_of p)) in
       let more = k.count_is in
       let count = h.count_is in
       let both = length-append (records_of p) (records ps) in
       record {
         all_accepted = All-append (λ r. IsTrue (accepted r)) (records_of p) (records ps) k.all_accepted h.all_accepted;
-        texts_are = k.texts_are ∙ ap (λ z. z ++ flat_map text (reverse (records_of p))) h.texts_are ∙ sym behind ∙ ap (flat_map text) (sym (reverse-append (records_of p) (records ps)));
+        texts_are = k.texts_are ∙ ap (λ z. z ++ flat_map text (reverse (records_of p))) h.texts_are ∙ sym after ∙ ap (flat_map text) (sym (reverse-append (records_of p) (records ps)));
         count_is = omega arith;
         offset_is = k.offset_is;
       }

@@ -12,7 +12,7 @@ up_to from place bytes new (inl here) within put =
     let front : length (take from bytes) ≡ from = length-take-le from bytes within in
     ap (λ z. take z new) here ∙ sym (take-take from (from + 4) new (omega arith)) ∙ ap (take from) put
     ∙ take_at (take from bytes) (replicate 4 0) from front ∙ sym (append-nil (take from bytes)) ∙ ap (λ z. take from bytes ++ replicate z 0) none
-up_to from place bytes new (inr behind) within put = grind (arith, nat_tests)
+up_to from place bytes new (inr after) within put = grind (arith, nat_tests)
 
 pub overwritten : (from place end k : ℕ) (bytes new out text : List ℕ) → (place ≡ from) ⊎ (place ≡ from + 4) → end ≡ place + length text → from ≤ length bytes → place ≤ length new
     → length text ≤ length out → take (from + 4) new ≡ take from bytes ++ replicate 4 0 → take (length text) out ≡ text

@@ -4,7 +4,7 @@ use Rattle.std.proofs.lemmas.{Bool.Decides.nat_tests, List.reverse-append}
 use Rattle.dspec_buffer.specs.Words.{Record, Piece, one, block, records, records_of, align_of, extent_of_records, extent, piece_align, piece_bytes, bytes_of_records, bytes, padding, padded}
 use Rattle.dspec_buffer.specs.Words.{BufferText, Shape}
 use Rattle.dspec_buffer.proofs.{Accepted.AllAccepted, Accepted.front_accepted, Accepted.back_accepted, Accepted.first_accepted, Accepted.others_accepted, Extents.records_extent}
-use Rattle.dspec_buffer.proofs.{Extents.pieces_extent, Extents.piece_facts, Gluing.glued, Gluing.moved, Gluing.behind_gap, Gluing.alone, Nexts.next_not_nil, Padding.IsPadding, Padding.padding_facts}
+use Rattle.dspec_buffer.proofs.{Extents.pieces_extent, Extents.piece_facts, Gluing.glued, Gluing.moved, Gluing.after_gap, Gluing.alone, Nexts.next_not_nil, Padding.IsPadding, Padding.padding_facts}
 use Rattle.dspec_buffer.proofs.{SchemaLaws.SchemaLaws, Texts.text_facts}
 
 module _ (shape : ℕ → Option Shape) (accepted : Record → Bool) (text : Record → List ℕ) (laws : SchemaLaws shape accepted text) where
@@ -15,7 +15,7 @@ module _ (shape : ℕ → Option Shape) (accepted : Record → Bool) (text : Rec
   padded_text o a (b ∷ x) [] p h = cc
   padded_text o a [] (r ∷ rs) p (g, (rest, (s, h))) =
       absurd (next_not_nil shape accepted text laws (o + length (padding o a)) g r rest s)
-  padded_text o a (b ∷ x) (r ∷ rs) p h = behind_gap shape accepted text laws o (padding o a) (b ∷ x) r rs p.is_gap h
+  padded_text o a (b ∷ x) (r ∷ rs) p h = after_gap shape accepted text laws o (padding o a) (b ∷ x) r rs p.is_gap h
 
   pub records_read : (rs : List Record) → AllAccepted accepted rs → BufferText shape accepted text 0 (bytes_of_records shape text rs) (reverse rs)
   records_read [] h = refl

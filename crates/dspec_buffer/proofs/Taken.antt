@@ -1,9 +1,9 @@
 -- The records that a reader has been given so far are those of the bytes up to its place, and no others.
 use Rattle.std.proofs.{Common.◌≡◌, Common.◌<◌, Common.◌≤◌, Common.◌++◌, Common.ℕ, Common.Bool, Common.Option, Common.List, Common.[], Common.◌∷◌, Common.length, Common.take, Common.refl}
 use Rattle.std.proofs.{Common.arith, Math.Logic.∥∥₁_elim, Math.Logic.∥∥₁_prop, lemmas.Bool.Decides.nat_tests}
-use Rattle.dspec_buffer.specs.Words.{Record, StopsBehind, HasRead, NextIs, FaultIs, IsOneText, Remaining, records_set, IsOneText-prop, Shape}
+use Rattle.dspec_buffer.specs.Words.{Record, StopsAfter, HasRead, NextIs, FaultIs, IsOneText, Remaining, records_set, IsOneText-prop, Shape}
 use Rattle.dspec_buffer.specs.declared.read_fault.ReadFault.{ReadFault}
-use Rattle.dspec_buffer.proofs.{Coming.text_with_one, Coming.stops_behind, Left.one_text_at_start, Nexts.next_long, SchemaLaws.SchemaLaws}
+use Rattle.dspec_buffer.proofs.{Coming.text_with_one, Coming.stops_after, Left.one_text_at_start, Nexts.next_long, SchemaLaws.SchemaLaws}
 
 module _ (shape : ℕ → Option Shape) (accepted : Record → Bool) (text : Record → List ℕ) (laws : SchemaLaws shape accepted text) where
   -- nothing was given yet
@@ -20,11 +20,11 @@ module _ (shape : ℕ → Option Shape) (accepted : Record → Bool) (text : Rec
 
   -- what was given stands before the fault
   pub given_before : (b : List ℕ) (o : ℕ) (fault : ReadFault) (rs : List Record) → o ≤ length b → IsOneText shape accepted text (take o b) 0 rs → FaultIs shape accepted text b o fault
-      → ∥ StopsBehind shape accepted text b rs fault ∥₁
+      → ∥ StopsAfter shape accepted text b rs fault ∥₁
   given_before b o fault rs within one f =
       ∥∥₁_elim one.0 ∥∥₁_prop (λ h.
       let read : HasRead shape accepted text b o = record { within = within; read = rs; is_text = h.ahead } in
-      ∣ stops_behind shape accepted text laws b o fault read f ∣₁)
+      ∣ stops_after shape accepted text laws b o fault read f ∣₁)
 
   -- no others were given
   pub given_are : (b : List ℕ) (rs : List Record) (m : Remaining shape accepted text b 0) → IsOneText shape accepted text b 0 rs → m.0 ≡ rs

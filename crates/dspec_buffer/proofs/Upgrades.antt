@@ -140,15 +140,15 @@ module _ (old : EnabledRows) (stamp : ℕ) (text : List ℕ) (size : ℕ) where
   pub fills-not-upgradable : (n : ℕ) → stamp < 2 ^ 64 → FillsUp old stamp text size n → ¬ IsUpgradable old stamp text size
   fills-not-upgradable n small f u =
       let accepted : Record → Bool = table_accepts old.header (enabled old.rows) in
-      let same : u.all ≡ f.before ++ f.first ∷ f.behind =
+      let same : u.all ≡ f.before ++ f.first ∷ f.after =
       one_reading (table_shape old.header (enabled old.rows)) accepted (table_text old.header (enabled old.rows)) (laws_of old.header old.rows) 0 text u.all
-      (f.before ++ f.first ∷ f.behind) u.is_text f.is_text in
-      let ok = text_accepted (table_shape old.header (enabled old.rows)) accepted (table_text old.header (enabled old.rows)) 0 text (f.before ++ f.first ∷ f.behind) f.is_text in
-      let behind : AllAccepted accepted f.behind = others_accepted accepted f.first f.behind (back_accepted accepted f.before (f.first ∷ f.behind) ok) in
-      let on : new_extent old (all_stamped stamp (f.before ++ f.first ∷ [])) ≤ new_extent old (all_stamped stamp (f.before ++ f.first ∷ [] ++ f.behind)) =
-      reach (f.before ++ f.first ∷ []) f.behind small behind in
-      let whole : new_extent old (all_stamped stamp (f.before ++ f.first ∷ [] ++ f.behind)) ≡ new_extent old (all_stamped stamp u.all) =
-      ap (λ rs. new_extent old (all_stamped stamp rs)) (append_assoc f.before (f.first ∷ []) f.behind ∙ sym same) in
+      (f.before ++ f.first ∷ f.after) u.is_text f.is_text in
+      let ok = text_accepted (table_shape old.header (enabled old.rows)) accepted (table_text old.header (enabled old.rows)) 0 text (f.before ++ f.first ∷ f.after) f.is_text in
+      let after : AllAccepted accepted f.after = others_accepted accepted f.first f.after (back_accepted accepted f.before (f.first ∷ f.after) ok) in
+      let on : new_extent old (all_stamped stamp (f.before ++ f.first ∷ [])) ≤ new_extent old (all_stamped stamp (f.before ++ f.first ∷ [] ++ f.after)) =
+      reach (f.before ++ f.first ∷ []) f.after small after in
+      let whole : new_extent old (all_stamped stamp (f.before ++ f.first ∷ [] ++ f.after)) ≡ new_extent old (all_stamped stamp u.all) =
+      ap (λ rs. new_extent old (all_stamped stamp rs)) (append_assoc f.before (f.first ∷ []) f.after ∙ sym same) in
       let first : new_extent old (all_stamped stamp (f.before ++ f.first ∷ [])) ≡ new_extent old (one (stamped stamp f.first) ∷ all_stamped stamp f.before) =
       ap (new_extent old) (one-more stamp f.before f.first) in
       omega (arith, on, whole, first, f.over, u.fit)

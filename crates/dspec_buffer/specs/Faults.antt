@@ -34,5 +34,5 @@ module _ (shape : ℕ → Option Shape) (accepted : Record → Bool) (text : Rec
     pub fault_here : FaultHere fault.kind fault.at left
 
   -- the whole records before this fault are these
-  abbrev pub StopsBehind : List ℕ → List Record → ReadFault → Type 0
-  StopsBehind bytes records fault = (stop : StopsAt bytes fault) × (stop.read ≡ records)
+  abbrev pub StopsAfter : List ℕ → List Record → ReadFault → Type 0
+  StopsAfter bytes records fault = (stop : StopsAt bytes fault) × (stop.read ≡ records)

@@ -1,6 +1,6 @@
 -- Cited by calls. A reader that checks a text as it goes: how far it has come, and what one call makes of that.
 use Rattle.std.specs.Prelude.{◌≡◌, ◌<◌, ◌≤◌, ℕ, Bool, List, [], ◌∷◌, ◌++◌, length, Option, Some, None, Result, Ok, Err}
-use Rattle.dspec_buffer.specs.{Faults.StopsBehind, Remaining.IsOneText, Words.Outside.Record, Words.Outside.Shape, declared.read_fault.ReadFault.ReadFault}
+use Rattle.dspec_buffer.specs.{Faults.StopsAfter, Remaining.IsOneText, Words.Outside.Record, Words.Outside.Shape, declared.read_fault.ReadFault.ReadFault}
 
 -- the text, the place in bytes up to which it was read, and the records that it was given up to there
 pub record Progress (D : Type 0) : Type 0 where
@@ -16,4 +16,4 @@ module _ {D : Type 0} (shape : ℕ → Option Shape) (accepted : Record → Bool
   Advances old (Ok (Some r)) new =
       (new ≡ record old { place = new.place; read = old.read ++ r ∷ [] }) × (old.place < new.place) × (new.place ≤ length old.text)
   Advances old (Ok None) new = (new ≡ old) × IsOneText shape accepted text old.text 0 old.read
-  Advances old (Err fault) new = (new ≡ old) × ∥ StopsBehind shape accepted text old.text old.read fault ∥₁
+  Advances old (Err fault) new = (new ≡ old) × ∥ StopsAfter shape accepted text old.text old.read fault ∥₁

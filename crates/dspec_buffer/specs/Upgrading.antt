@@ -45,8 +45,8 @@ pub record IsUpgraded (old : EnabledRows) (stamp : ℕ) (text : List ℕ) (to : 
 pub record FillsUp (old : EnabledRows) (stamp : ℕ) (text : List ℕ) (size n : ℕ) : Type 0 where
   pub before : List Record
   pub first : Record
-  pub behind : List Record
-  pub is_text : IsOldText old text (before ++ first ∷ behind)
+  pub after : List Record
+  pub is_text : IsOldText old text (before ++ first ∷ after)
   pub number : n ≡ length before
   pub fit : new_extent old (all_stamped stamp before) ≤ size
   pub over : size < new_extent old (one (stamped stamp first) ∷ all_stamped stamp before)

@@ -1,6 +1,6 @@
 use crate::TraceBuffer;
 use crate::reader::next_of_text;
-use crate::reserving::{aligned, pad, place_for, put_behind, shape_in};
+use crate::reserving::{aligned, pad, place_for, put_after, shape_in};
 use dspec_record::{Rec, Recorded, Schema, Shape};
 use std::alloc::{AllocError, Global};
 use std::fmt;
@@ -140,7 +140,7 @@ impl<S: Schema> TraceBuffer<S> for ByteBuffer {
         // counted before the bytes are written, so that no register holds what the counting needs meanwhile
         self.count += 1;
         let bytes = self.bytes.as_mut_slice();
-        put_behind(schema, rec, bytes, from, place as usize, end as usize);
+        put_after(schema, rec, bytes, from, place as usize, end as usize);
         // what a reader of this memory goes by comes last: where the thread is stopped in between, the record isn't there
         self.offset = end;
         true

@@ -1,5 +1,5 @@
 ghost use Rattle.std.specs.Prelude.{◌≡◌, ◌≤◌, length, IfSome, IfNone};
-ghost use Rattle.dspec_buffer.specs.{BufferText.BufferText, Faults.StopsBehind, ReadingOn.EndsAt};
+ghost use Rattle.dspec_buffer.specs.{BufferText.BufferText, Faults.StopsAfter, ReadingOn.EndsAt};
 
 use crate::reader::read_next;
 use crate::{ReadFault, Records};
@@ -30,7 +30,7 @@ pub fn read_prefix<'a, S: Schema>(
     text: &'a [u8],
 ) -> (Records<'a, S>, Option<ReadFault>)
     ensures whole { IfNone result.1 (BufferText (S.shape_of schema.now) (S.accepted schema.now) (S.text schema.now) 0 text.now result.0) }
-    ensures fault { IfSome result.1 (λ fault. StopsBehind (S.shape_of schema.now) (S.accepted schema.now) (S.text schema.now) text.now result.0 fault) }
+    ensures fault { IfSome result.1 (λ fault. StopsAfter (S.shape_of schema.now) (S.accepted schema.now) (S.text schema.now) text.now result.0 fault) }
 {
     let (end, fault) = read_up_to(schema, text);
     let records = Records {

@@ -49,7 +49,7 @@ pub(crate) fn pad(bytes: &mut [u8], from: usize, to: usize)
 /// Writes an accepted record, as the record knows its text or else the schema, and the padding word before it. That word is always
 /// written: where there is no padding, the record goes over it.
 #[inline(always)]
-pub(crate) fn put_behind<S: Schema, R: Recorded>(
+pub(crate) fn put_after<S: Schema, R: Recorded>(
     schema: &S,
     rec: R,
     bytes: &mut [u8],

@@ -20,12 +20,12 @@ one_more (suc n) (w ∷ ws) (g ∷ fs) f small there is at =
     more (field_of_width w) (fields_of_widths (take n ws)) (fields_of_widths (take (suc n) ws)) g (take n fs) (take (suc n) (slice_set fs n f)) is
     (λ so. one_more n ws fs f (omega arith) (omega arith) so at)
 
-none_behind : (a : Option Field) → field_and_rest a None ≡ None
-none_behind None = refl
-none_behind (Some x) = refl
+none_later : (a : Option Field) → field_and_rest a None ≡ None
+none_later None = refl
+none_later (Some x) = refl
 
 -- one that is none makes none of all
 pub one_none : (n : ℕ) (ws : List ℕ) → n < length ws → field_of_width (get_or ws n 0) ≡ None → fields_of_widths ws ≡ None
 one_none n [] small at = absurd (omega arith)
 one_none zero (w ∷ ws) small at = ap (λ o. field_and_rest o (fields_of_widths ws)) at
-one_none (suc n) (w ∷ ws) small at = ap (λ o. field_and_rest (field_of_width w) o) (one_none n ws (omega arith) at) ∙ none_behind (field_of_width w)
+one_none (suc n) (w ∷ ws) small at = ap (λ o. field_and_rest (field_of_width w) o) (one_none n ws (omega arith) at) ∙ none_later (field_of_width w)

@@ -83,11 +83,11 @@ module _ {S B : Type 0} {has : B → S → List Piece → Type 0} {capacity : B 
     -- its deeds may come next
     pub move_comes : MayCome has capacity shape_of accepted m (entry_deeds c move.entry)
     move_comes =
-        let behind = step_cpu_coherent (shape_of m.schema) (state_of m) c (Some f) kept.coherent lt flies in
+        let after = step_cpu_coherent (shape_of m.schema) (state_of m) c (Some f) kept.coherent lt flies in
         record {
           kept = kept;
-          legal = subst (λ (x : CpuStep). IsAllowed (shape_of m.schema) m.config (x.deeds ++ history m)) (sym moves) behind.legal;
-          authors = subst (λ (x : CpuStep). HasAuthors m.config (x.deeds ++ history m)) (sym moves) behind.authors;
+          legal = subst (λ (x : CpuStep). IsAllowed (shape_of m.schema) m.config (x.deeds ++ history m)) (sym moves) after.legal;
+          authors = subst (λ (x : CpuStep). HasAuthors m.config (x.deeds ++ history m)) (sym moves) after.authors;
           records = subst (λ (x : CpuStep). deeds_pass (accepted m.schema) x.deeds ≡ true) (sym moves)
               (step_records (accepted m.schema) m.config c (measured (shape_of m.schema) m.config c (history m)) (progress_of (state_of m).progresses c) f (kept.accepted_records c f lt flies));
         }

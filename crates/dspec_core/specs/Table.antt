@@ -34,13 +34,13 @@ entry_deeds c (One d) = d ∷ []
 entry_deeds c (Alone id n) = Release id.slot ∷ Discard c id (Thrown n) ∷ []
 
 -- how many steps the call in flight has made then
-abbrev pub steps_behind : ℕ → Option CallPlace → ℕ
-steps_behind n None = 0
-steps_behind n (Some f) = n + 1
+abbrev pub steps_after : ℕ → Option CallPlace → ℕ
+steps_after n None = 0
+steps_after n (Some f) = n + 1
 
 -- the progress that a move makes of another
 abbrev pub moved_by : Move → CpuProgress → CpuProgress
-moved_by move me = record me { flight = move.flight; steps = steps_behind me.steps move.flight; spare = move.spare; worn = move.worn }
+moved_by move me = record me { flight = move.flight; steps = steps_after me.steps move.flight; spare = move.spare; worn = move.worn }
 
 abbrev pub step_of : Seen → Move → CpuStep
 step_of seen move = record { progress = moved_by move seen.me; deeds = entry_deeds seen.cpu move.entry; answer = move.answer }

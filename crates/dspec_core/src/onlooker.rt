@@ -15,7 +15,7 @@ pub trait Onlooker<S: Schema, B: TraceBuffer<S>> {
         requires busy { is_idle actor world.now.state ≡ false };
 
     /// What that step has left.
-    fn behind(&mut self, world: &World<S, B>) -> Result<(), AllocError>;
+    fn after(&mut self, world: &World<S, B>) -> Result<(), AllocError>;
 }
 
 // Nobody looks on.
@@ -27,7 +27,7 @@ impl<S: Schema, B: TraceBuffer<S>> Onlooker<S, B> for Nobody {
         Ok(())
     }
 
-    fn behind(&mut self, _: &World<S, B>) -> Result<(), AllocError> {
+    fn after(&mut self, _: &World<S, B>) -> Result<(), AllocError> {
         Ok(())
     }
 }

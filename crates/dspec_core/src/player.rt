@@ -63,7 +63,7 @@ fn step_actor<S: Schema, B: TraceBuffer<S>, O: Onlooker<S, B>>(
     let Ok(answer) = world.advance(actor) else {
         return Err(StepFault::Memory);
     };
-    if onlooker.behind(world).is_err() {
+    if onlooker.after(world).is_err() {
         return Err(StepFault::Memory);
     }
     let Some(answer) = answer else {

@@ -1,6 +1,6 @@
 -- A CPU's list and the list of all, at the close of a session: slot by slot both go on by what the CPU has still to settle.
 use Rattle.std.proofs.Common.{◌≡◌, ℕ, zero, suc, ◌+◌, ◌==◌, ◌<◌, Bool, true, false, ◌&&◌, List, ◌∷◌, Option, if◌then◌else◌, refl, sym, ap, ◌∙◌, subst, ⊎_elim, arith}
-use Rattle.dspec_cpu.specs.Words.{Shape, settle_at, SlotState, is_granted, ack, word_at, settle_fate, own_closed, own_closed_slot, Shows, CanCloseBehind, IsPartOf, shown_at, Config, Deed, Settle}
+use Rattle.dspec_cpu.specs.Words.{Shape, settle_at, SlotState, is_granted, ack, word_at, settle_fate, own_closed, own_closed_slot, Shows, CanCloseAfter, IsPartOf, shown_at, Config, Deed, Settle}
 use Rattle.dspec_deeds.proofs.TestLemmas.{either_way, same_number}
 use Rattle.dspec_cpu.proofs.Settlements.{ack_is, settles_on}
 
@@ -50,7 +50,7 @@ module _ (shape : ℕ → Option Shape) (k : Config) (c : ℕ) (words : List ℕ
           (either_way (is_granted (settle_at (shown (suc n)) (ack c (suc n) (closed n)))))
 
   -- the next slot can be settled
-  pub can_close : (n : ℕ) → (now : List Deed) × CanCloseBehind k c (n + 1) words log now (closed n)
+  pub can_close : (n : ℕ) → (now : List Deed) × CanCloseAfter k c (n + 1) words log now (closed n)
   can_close n =
       let was = came n in (
         was.now,

@@ -8,9 +8,9 @@ use Rattle.dspec_buffer.specs.Extent as extent
 use Rattle.dspec_deeds.proofs.TestLemmas.{number_is_itself}
 use Rattle.dspec_table.specs.declared.seats.Words.{Words}
 use Rattle.dspec_cpu.specs.declared.reaching.Reach.TheVariants as reach
-use Rattle.dspec_cpu.proofs.{Behind.Behind, Behind.behind, Decided.Ended, Decided.deciding, Decided.deed_of, Decided.ended, Decisions.block_answer, Decisions.block_deeds, Decisions.fate_tells}
-use Rattle.dspec_cpu.proofs.{Decisions.IsCommitWord, Decisions.left_by_commit, Decisions.released_shown, Decisions.waits_many, Ready.few, Ready.holder, Ready.set_up_is, Ready.stands_behind}
-use Rattle.dspec_cpu.proofs.{Shown.shows, Shown.shown_behind, Slots.stands_more, Speculates.caller_of}
+use Rattle.dspec_cpu.proofs.{Decided.Ended, Decided.deciding, Decided.deed_of, Decided.ended, Decisions.block_answer, Decisions.block_deeds, Decisions.fate_tells, Decisions.IsCommitWord}
+use Rattle.dspec_cpu.proofs.{Decisions.left_by_commit, Decisions.released_shown, Decisions.waits_many, DeedsAfter.DeedsAfter, DeedsAfter.deeds_after, Ready.few, Ready.holder, Ready.set_up_is}
+use Rattle.dspec_cpu.proofs.{Ready.stands_after, Shown.shows, Shown.shown_after, Slots.stands_more, Speculates.caller_of}
 
 module _ (shape : ℕ → Option Shape) (accepted : Record → Bool) (text : Record → List ℕ) {S : Type 0} (words : Words) (cpu : Cpu S)
     (ready : IsReady shape accepted text words cpu) {id : Speculation} {fit mine : Bool} {n : ℕ} {to : SlotState} (seat : CpuSeat) (commits : Bool) (is : commits ≡ true)
@@ -47,7 +47,7 @@ module _ (shape : ℕ → Option Shape) (accepted : Record → Bool) (text : Rec
         let allows : CpuLegal shape cpu.config p d = rw ((fate_tells fit n).0) ((fate_tells fit n).2 ∙ counting p had.shown caller, (fate_tells fit n).1 ∙ fitting p had.shown caller) in
         let was = shown p (shows shape accepted text cpu.side p had.shown) caller (ap is_commit its ∙ (fate_tells fit n).0)
         (subst (λ x. CpuLegal shape cpu.config p (Commit cpu.cpu id x)) (sym its) allows) in
-        shown_behind shape accepted text cpu.side p had.shown d refl (number_is_itself cpu.cpu) allows now
+        shown_after shape accepted text cpu.side p had.shown d refl (number_is_itself cpu.cpu) allows now
         (subst (λ x. ShowsList (HasPieces shape accepted text) (λ b. b.size) cpu.config cpu.cpu (Commit cpu.cpu id x ∷ p) now) its was)
 
     -- its deeds are those of the answer
@@ -60,8 +60,8 @@ module _ (shape : ℕ → Option Shape) (accepted : Record → Bool) (text : Rec
     -- it released nothing
     pub left_open : OwnsCommit (set_up words) (cpu_of seat) id.slot w (Attempt to) → to.code ≢ Committing → Ended shape accepted text words cpu (deed_of commits cpu.cpu id) id a new
     left_open owns several = ended shape accepted text words cpu commits_by id a false new
-        (λ d e. waits_many cpu.config id w.seen to got.stands.sound got.stands.rests owns.0 left several) (subst (λ ds. Behind shape accepted text words cpu ds new) (answered false)
-        (behind shape accepted text words cpu ready seat at now (d ∷ []) got.goes got.stands (λ p. refl) ready.steady.idle refl block_shown))
+        (λ d e. waits_many cpu.config id w.seen to got.stands.sound got.stands.rests owns.0 left several) (subst (λ ds. DeedsAfter shape accepted text words cpu ds new) (answered false)
+        (deeds_after shape accepted text words cpu ready seat at now (d ∷ []) got.goes got.stands (λ p. refl) ready.steady.idle refl block_shown))
 
     -- it released the slot
     pub released : (after : CpuSeat) (slot : ℕ) → slot ≡ id.slot → ReleasedWord slot w (known after) → IsAt words after × (cpu_of after ≡ cpu_of seat)
@@ -69,11 +69,11 @@ module _ (shape : ℕ → Option Shape) (accepted : Record → Bool) (text : Rec
     released after slot there step at_last =
         let u = known after in
         let step : ReleasedWord id.slot w u = subst (λ s. ReleasedWord s w u) there step in
-        let last = stands_behind cpu.config cpu.cpu w u step.0 (Release id.slot ∷ []) (got.stands.config ∙ set_up_is shape accepted text words cpu ready)
+        let last = stands_after cpu.config cpu.cpu w u step.0 (Release id.slot ∷ []) (got.stands.config ∙ set_up_is shape accepted text words cpu ready)
         (got.stands.who ∙ holder shape accepted text words cpu ready) step.2 in
         let stands = stands_more cpu.config cpu.cpu v w u (Release id.slot) (d ∷ []) got.stands last in
         ended shape accepted text words cpu commits_by id a true (record cpu { seat = after; side = now }) (λ d e. absurd (true≢false e))
-        (subst (λ ds. Behind shape accepted text words cpu ds (record cpu { seat = after; side = now })) (answered true)
-        (behind shape accepted text words cpu ready after (at_last.0, at_last.1 ∙ at.1) now (Release id.slot ∷ d ∷ [])
+        (subst (λ ds. DeedsAfter shape accepted text words cpu ds (record cpu { seat = after; side = now })) (answered true)
+        (deeds_after shape accepted text words cpu ready after (at_last.0, at_last.1 ∙ at.1) now (Release id.slot ∷ d ∷ [])
         (steps u (Release id.slot ∷ []) _ step.0 got.goes step.1 (inl step.2) refl) stands (λ p. refl) ready.steady.idle refl
         (λ p had. released_shown shape accepted text new (d ∷ p) (block_shown p had) id.slot refl after)))

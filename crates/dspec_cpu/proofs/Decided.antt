@@ -9,7 +9,7 @@ use Rattle.dspec_deeds.specs.declared.deed.DecideFate.TheVariants as fated
 use Rattle.dspec_deeds.proofs.TestLemmas.{number_is_itself}
 use Rattle.dspec_table.specs.declared.seats.Words.{Words}
 use Rattle.dspec_cpu.specs.declared.reaching.Reach.TheVariants as reach
-use Rattle.dspec_cpu.proofs.Behind.{Behind, one_behind}
+use Rattle.dspec_cpu.proofs.DeedsAfter.{DeedsAfter, one_after}
 
 -- the deed of the call, and the call, by whether it commits
 abbrev pub deed_of : Bool → ℕ → Speculation → DecideFate → Deed
@@ -46,7 +46,7 @@ module _ (shape : ℕ → Option Shape) (accepted : Record → Bool) (text : Rec
 
   -- these deeds are those of its answer
   pub ended : {of by : DecideFate → Deed} → of ≡ by → (id : Speculation) (a : Decided) (alone : Bool) (new : Cpu S)
-      → (is_decision a ≡ true → alone ≡ false → solo id (known new.seat).seen ≡ None) → Behind shape accepted text words cpu (decided_deeds of id.slot alone a) new → Ended by id a new
+      → (is_decision a ≡ true → alone ≡ false → solo id (known new.seat).seen ≡ None) → DeedsAfter shape accepted text words cpu (decided_deeds of id.slot alone a) new → Ended by id a new
   ended is id a alone new waits l =
       subst (λ f. Ended f id a new) is record { ready = l.ready; decides = record { alone = alone; did = l.did; waits = waits; list = l.list } }
 
@@ -59,7 +59,7 @@ module _ (shape : ℕ → Option Shape) (accepted : Record → Bool) (text : Rec
     new = record cpu { seat = seat; side = now }
 
     -- by one deed that has no part in a block
-    left : (id : Speculation) (of : DecideFate → Deed) (a : Decided) → is_decision a ≡ false → Behind shape accepted text words cpu (decided_deeds of id.slot false a) new → Ended of id a new
+    left : (id : Speculation) (of : DecideFate → Deed) (a : Decided) → is_decision a ≡ false → DeedsAfter shape accepted text words cpu (decided_deeds of id.slot false a) new → Ended of id a new
     left id of a none l = ended refl id a false new (λ d e. absurd (true≢false (sym d ∙ none))) l
 
     -- the session was stopped, or the identifier wasn't open
@@ -69,10 +69,10 @@ module _ (shape : ℕ → Option Shape) (accepted : Record → Bool) (text : Rec
         → ((p : List Deed) → Shows p cpu.side → Shows (Discard cpu.cpu id (fate_left stopped) ∷ p) now)
         → Ended (deed_of commits cpu.cpu id) id (if stopped then decided.Stopped else decided.Void) new
     undecided {id = id} true true got side other = left id (Commit cpu.cpu id) decided.Stopped refl
-        (one_behind shape accepted text words cpu ready seat at now _ got.goes got.stands refl (number_is_itself cpu.cpu) ready.steady.idle refl (λ p had was. (tt, side p was)))
+        (one_after shape accepted text words cpu ready seat at now _ got.goes got.stands refl (number_is_itself cpu.cpu) ready.steady.idle refl (λ p had was. (tt, side p was)))
     undecided {id = id} true false got side other = left id (Commit cpu.cpu id) decided.Void refl
-        (one_behind shape accepted text words cpu ready seat at now _ got.goes got.stands refl (number_is_itself cpu.cpu) ready.steady.idle refl (λ p had was. (tt, side p was)))
+        (one_after shape accepted text words cpu ready seat at now _ got.goes got.stands refl (number_is_itself cpu.cpu) ready.steady.idle refl (λ p had was. (tt, side p was)))
     undecided {id = id} false true got other side = left id (Discard cpu.cpu id) decided.Stopped refl
-        (one_behind shape accepted text words cpu ready seat at now _ got.goes got.stands refl (number_is_itself cpu.cpu) ready.steady.idle refl (λ p had was. (tt, side p was)))
+        (one_after shape accepted text words cpu ready seat at now _ got.goes got.stands refl (number_is_itself cpu.cpu) ready.steady.idle refl (λ p had was. (tt, side p was)))
     undecided {id = id} false false got other side = left id (Discard cpu.cpu id) decided.Void refl
-        (one_behind shape accepted text words cpu ready seat at now _ got.goes got.stands refl (number_is_itself cpu.cpu) ready.steady.idle refl (λ p had was. (tt, side p was)))
+        (one_after shape accepted text words cpu ready seat at now _ got.goes got.stands refl (number_is_itself cpu.cpu) ready.steady.idle refl (λ p had was. (tt, side p was)))

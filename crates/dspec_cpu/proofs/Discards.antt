@@ -10,8 +10,8 @@ use Rattle.dspec_deeds.specs.declared.deed.DecideFate.TheVariants as fated
 use Rattle.dspec_deeds.proofs.TestLemmas.{number_is_itself, same_number}
 use Rattle.dspec_table.specs.declared.seats.Words.{Words}
 use Rattle.dspec_cpu.specs.declared.reaching.Reach.TheVariants as reach
-use Rattle.dspec_cpu.proofs.{Behind.behind, Decided.Ended, Decided.deciding, Decided.deed_of, Decided.ended, Decisions.waits_at, Decisions.released_shown, Ready.few, Retries.here_or_void}
-use Rattle.dspec_cpu.proofs.{Retries.attempt_is, Retries.to_is, Shown.shows, Shown.shown_behind, Speculates.caller_of}
+use Rattle.dspec_cpu.proofs.{Decided.Ended, Decided.deciding, Decided.deed_of, Decided.ended, Decisions.waits_at, Decisions.released_shown, DeedsAfter.deeds_after, Ready.few, Retries.here_or_void}
+use Rattle.dspec_cpu.proofs.{Retries.attempt_is, Retries.to_is, Shown.shows, Shown.shown_after, Speculates.caller_of}
 
 -- an exchange of discard releases the slot, or leaves the issue and a discard that waits
 pub record IsDiscardWord (i : ℕ) (to : SlotState) : Type 0 where
@@ -75,9 +75,9 @@ module _ (shape : ℕ → Option Shape) (accepted : Record → Bool) (text : Rec
       let left = left_by_discard id mine a.0 to a.1 in
       ended shape accepted text words cpu (ap (λ b. deed_of b cpu.cpu id) (sym is)) id (decided.Thrown n) (is_inactive to.code) new
       (λ d e. waits_at cpu.config id (known seat).seen to Discarding got.stands.sound got.stands.rests owns.0 (left.issue e) (left.code e) refl)
-      (behind shape accepted text words cpu ready seat at now deeds got.goes got.stands (λ p. bare_too p (is_inactive to.code)) (still_idle (is_inactive to.code))
+      (deeds_after shape accepted text words cpu ready seat at now deeds got.goes got.stands (λ p. bare_too p (is_inactive to.code)) (still_idle (is_inactive to.code))
       (none_flies (is_inactive to.code)) (λ p had.
       let caller = caller_of cpu.config cpu.cpu id v.own mine (few shape accepted text words cpu ready) (got.present refl).0 p had.own (marked p had.shown) in
       let count = counting p had.shown caller in
-      released_too new p (is_inactive to.code) (shown_behind shape accepted text cpu.side p had.shown d refl (number_is_itself cpu.cpu) count now
+      released_too new p (is_inactive to.code) (shown_after shape accepted text cpu.side p had.shown d refl (number_is_itself cpu.cpu) count now
       (shown p (shows shape accepted text cpu.side p had.shown) caller refl count))))

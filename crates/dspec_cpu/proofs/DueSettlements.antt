@@ -9,7 +9,7 @@ use Rattle.dspec_deeds.specs.declared.calls.CpuOp.TheVariants as op
 use Rattle.dspec_deeds.proofs.OwnReads.{apart_bare}
 use Rattle.dspec_table.specs.declared.seats.Words.{Words}
 use Rattle.dspec_table.proofs.OwnReading.{scan_part}
-use Rattle.dspec_cpu.proofs.{Ready.few, Ready.holder, Ready.number, Ready.ready_after, Ready.set_up_is, Ready.stands_behind, Settlements.can_settle}
+use Rattle.dspec_cpu.proofs.{Ready.few, Ready.holder, Ready.number, Ready.ready_after, Ready.set_up_is, Ready.stands_after, Settlements.can_settle}
 
 module _ (shape : ℕ → Option Shape) (accepted : Record → Bool) (text : Record → List ℕ) {S : Type 0} (words : Words) (cpu : Cpu S)
     (ready : IsReady shape accepted text words cpu) (slot : ℕ) (low : 1 ≤ slot) (high : slot ≤ cpu.config.nspec)
@@ -55,7 +55,7 @@ module _ (shape : ℕ → Option Shape) (accepted : Record → Bool) (text : Rec
         (number shape accepted text words cpu ready) stores.2
 
     stands : Stands cpu.config cpu.cpu v (deed ∷ []) w
-    stands = stands_behind cpu.config cpu.cpu v w stores.0 (deed ∷ []) (set_up_is shape accepted text words cpu ready) (holder shape accepted text words cpu ready) entered
+    stands = stands_after cpu.config cpu.cpu v w stores.0 (deed ∷ []) (set_up_is shape accepted text words cpu ready) (holder shape accepted text words cpu ready) entered
 
     list_now : (p : List Deed) → HasList shape accepted text cpu p → HasList shape accepted text new (deed ∷ p)
     list_now p had =
@@ -72,7 +72,7 @@ module _ (shape : ℕ → Option Shape) (accepted : Record → Bool) (text : Rec
     pub due_settled : DueSettled cpu.cpu slot word (HasList shape accepted text cpu) v (HasList shape accepted text new) w
     due_settled = record {
       settles = deed ∷ [];
-      behind = (own, service, refl, stores);
+      after = (own, service, refl, stores);
       goes = steps w (deed ∷ []) (deed ∷ []) stores.0 rests stores.1 (inl entered) refl;
       list = list_now;
     }

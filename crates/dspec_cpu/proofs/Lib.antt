@@ -2,7 +2,7 @@ pub mod Makes
 pub mod Limits
 pub mod Shown
 pub mod Ready
-pub mod Behind
+pub mod DeedsAfter
 pub mod Traces
 pub mod Mine
 pub mod Outside

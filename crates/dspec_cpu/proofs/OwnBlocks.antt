@@ -7,7 +7,7 @@ use Rattle.dspec_cpu.specs.Words.{ShowsList, settled_fate, BlockSettled, CanSett
 use Rattle.dspec_buffer.specs.Extent as extent
 use Rattle.dspec_deeds.specs.Settling as settling
 use Rattle.dspec_deeds.proofs.TestLemmas.{number_is_itself}
-use Rattle.dspec_cpu.proofs.Shown.{shows, shown_behind}
+use Rattle.dspec_cpu.proofs.Shown.{shows, shown_after}
 
 -- what becomes of a block is lawful, and never stopped
 pub lawful : (shape : ℕ → Option Shape) (k : Config) (c : ℕ) (p : List Deed) (id : Speculation) (code : Code) → CpuRow shape k p (Settle c id (settling.settle_fate shape k c p id code))
@@ -73,6 +73,6 @@ module _ (shape : ℕ → Option Shape) (accepted : Record → Bool) (text : Rec
             let was = shown (shows shape accepted text side p can.shown) caller (ap (λ g. is_commit g || is_discard g) is ∙ (ends fit n code).0) allows in
             record {
               fate = ap (λ (d : Doing). settled_fate code d.fits d.count) served ∙ fate_is;
-              shown = shown_behind shape accepted text side p can.shown (Settle c id f) refl (number_is_itself c) (lawful shape k c p id code) now
+              shown = shown_after shape accepted text side p can.shown (Settle c id f) refl (number_is_itself c) (lawful shape k c p id code) now
                   (subst (λ (x : Speculation × DecideFate). ShowsList (HasPieces shape accepted text) (λ b. b.size) k c (Settle c x.0 x.1 ∷ p) now) (λ i. (named i, same i)) was);
             }

@@ -10,7 +10,7 @@ use Rattle.dspec_deeds.proofs.TestLemmas.{and_tells}
 use Rattle.dspec_table.proofs.Flights.{quiet_activity, in_flight, activity_enters}
 use Rattle.dspec_cpu.specs.declared.reaching.Reach.TheVariants as reach
 use Rattle.dspec_cpu.proofs.{Mine.own_mine_tells, ReachDeeds.ended_deeds, ReachDeeds.goes_on, ReachDeeds.is_no_void, ReachDeeds.outside_deeds, ReachDeeds.reached_ends, ReachDeeds.reached_now}
-use Rattle.dspec_cpu.proofs.{ReachDeeds.stopped_deeds, ReachDeeds.unstopped, Ready.stands_behind, Ready.stands_called, Stopping.shown_stop, Stopping.shown_running, Touching.touched_more}
+use Rattle.dspec_cpu.proofs.{ReachDeeds.stopped_deeds, ReachDeeds.unstopped, Ready.stands_after, Ready.stands_called, Stopping.shown_stop, Stopping.shown_running, Touching.touched_more}
 use Rattle.dspec_cpu.proofs.{Touching.touched_on, Touching.touched_one, Touching.touched_wider}
 
 module _ (k : Config) (c : ℕ) (doing : Doing) (id : Speculation) (v : View) (config : v.config ≡ k) (who : v.who ≡ of_cpu c) (on : IsOn id doing.op) where
@@ -24,7 +24,7 @@ module _ (k : Config) (c : ℕ) (doing : Doing) (id : Speculation) (v : View) (c
       let one : w.steps ≡ v.steps + 1 = ap (λ (x : View). x.steps) entered.view in
       record {
         goes = steps w _ _ step.0 rests step.1 (activity_enters doing v stopped w _ step deeds) (sym (append-nil _));
-        stands = stands_called k c doing.op v w _ (stands_behind k c (calling doing.op v) w step.0 _ config who entered)
+        stands = stands_called k c doing.op v w _ (stands_after k c (calling doing.op v) w step.0 _ config who entered)
             (reached_ends k c doing id (Some doing.op) doing.op r on no_grant ∙ sym (reached_ends k c doing id v.flight doing.op r on no_grant));
         stops = subst (λ b. StopsWhereMet v false b w) (sym answered) (heeds stopped step);
         bounded = let no = ap releases_next void in omega arith;
@@ -51,9 +51,9 @@ module _ (k : Config) (c : ℕ) (doing : Doing) (id : Speculation) (v : View) (c
       let its : part (CpuActor c) step.0 ≡ v.own = subst (λ x. part_of x step.0 ≡ v.own) who step.1.own in
       in_flight k v u c doing id config inside on idle (λ le. mine ∙ own_mine_tells k c id step.0 v.own sound its le) step
 
-  pub behind : (u : View) → in_range k id ≡ true → LoadedActivity doing v false u → (r : Reach) (w : View) → EndsAtWord k c doing id id.slot u (act_reached r) w
+  pub reached_after : (u : View) → in_range k id ≡ true → LoadedActivity doing v false u → (r : Reach) (w : View) → EndsAtWord k c doing id id.slot u (act_reached r) w
       → (r ≡ reach.Stopped → ⊥) → Reached k c doing id v r w
-  behind u inside step r w ended running =
+  reached_after u inside step r w ended running =
       let quiet : at_activity v.config (number_of v.who) doing doing.op false ≡ [] =
       quiet_activity v.config (number_of v.who) doing id doing.op (ap (λ (x : Config). in_range x id) config ∙ inside) on in
       let first : Entered activity_place (calling doing.op v) step.0 [] u = subst (λ ds. Entered activity_place (calling doing.op v) step.0 ds u) quiet step.3 in
@@ -70,7 +70,7 @@ module _ (k : Config) (c : ℕ) (doing : Doing) (id : Speculation) (v : View) (c
       let entered : Entered (slot_place id.slot) b log (reached_deeds c doing doing.op r) w = subst (λ ds. Entered (slot_place id.slot) b log ds w) deeds shown.last.3 in
       let loaded : Touches (of_slot k id) v u = touched_one (of_slot k id) v u activity_place (ap (λ (x : View). x.touched) first.view) (inl refl) in
       let worked : Touches (of_slot k id) u b = touched_wider (at_slot id.slot) (of_slot k id) u b (λ p e. inr (inside, e)) shown.worked in
-      let last = stands_behind k c b w log (reached_deeds c doing doing.op r) b_config b_who entered in
+      let last = stands_after k c b w log (reached_deeds c doing doing.op r) b_config b_who entered in
       let one : u.steps ≡ v.steps + 1 = ap (λ (x : View). x.steps) first.view in
       record {
         goes = steps w (reached_deeds c doing doing.op r) (reached_deeds c doing doing.op r) log

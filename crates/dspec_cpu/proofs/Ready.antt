@@ -10,8 +10,8 @@ use Rattle.dspec_cpu_state.proofs.Tallies.{drops_since}
 use Rattle.dspec_cpu.proofs.Limits.{limits}
 
 -- after the last of them
-pub stands_behind : {place : ℕ} (k : Config) (c : ℕ) (v w : View) (log ds : List Deed) → v.config ≡ k → v.who ≡ of_cpu c → Entered place v log ds w → Stands k c v ds w
-stands_behind k c v w log ds config who entered = grind (arith, nat_tests)
+pub stands_after : {place : ℕ} (k : Config) (c : ℕ) (v w : View) (log ds : List Deed) → v.config ≡ k → v.who ≡ of_cpu c → Entered place v log ds w → Stands k c v ds w
+stands_after k c v w log ds config who entered = grind (arith, nat_tests)
 
 -- the same after a load of activity, which had its call in flight
 pub stands_called : (k : Config) (c : ℕ) (o : CpuOp) (v w : View) (ds : List Deed) → Stands k c (calling o v) ds w → flight_after k (Some o) ds ≡ flight_after k v.flight ds → Stands k c v ds w

@@ -9,7 +9,7 @@ use Rattle.dspec_deeds.specs.declared.calls.Opening.TheVariants as opening
 use Rattle.dspec_deeds.proofs.TestLemmas.{either_way, number_is_itself, other_number, same_number}
 use Rattle.dspec_table.proofs.Flights.{activity_enters, flight_by_last}
 use Rattle.dspec_cpu.specs.declared.scanning.Look.TheVariants as look
-use Rattle.dspec_cpu.proofs.{ReachDeeds.goes_on, Ready.stands_behind, Ready.stands_called, Slots.asked, Slots.stands_more, Stopping.shown_stop, Stopping.shown_running, Stopping.heeded}
+use Rattle.dspec_cpu.proofs.{ReachDeeds.goes_on, Ready.stands_after, Ready.stands_called, Slots.asked, Slots.stands_more, Stopping.shown_stop, Stopping.shown_running, Stopping.heeded}
 use Rattle.dspec_cpu.proofs.{Touching.slot_touched, Touching.touched_one}
 
 -- a scan came past so many slots, of which one was decided or none
@@ -38,7 +38,7 @@ module _ (k : Config) (c : ℕ) (v : View) where
       let same : flight_after k (Some op.Speculation) ds ≡ flight_after k v.flight ds =
       ap (flight_after k (Some op.Speculation)) e ∙ (flight_by_last k (Some op.Speculation) v.flight (Scan c r) [] [] ∙ ap (flight_after k v.flight) (sym e)) in (
         steps w ds ds step.0 rests step.1 (activity_enters asked v b w ds step deeds) (sym (append-nil ds)),
-        stands_called k c op.Speculation v w ds (stands_behind k c (calling op.Speculation v) w step.0 ds config who entered) same,
+        stands_called k c op.Speculation v w ds (stands_after k c (calling op.Speculation v) w step.0 ds config who entered) same,
         ap (λ (x : View). x.steps) entered.view,
         ap (λ (x : View). x.touched) entered.view,
       )

@@ -1,11 +1,11 @@
 -- The slots of a service, one after the other.
 use Rattle.std.proofs.Common.{◌≡◌, ℕ, zero, suc, ◌+◌, ◌≤◌, Bool, true, false, List, [], ◌++◌, length, if◌then◌else◌, refl, sym, ap, subst, arith, append_assoc, length-append}
 use Rattle.std.proofs.lemmas.Bool.Decides.{nat_tests}
-use Rattle.dspec_cpu.specs.Words.{Deed, SlotState, rests, Settled, SettledBehind, SettledSlot, SettledSlots, SlotDone, View}
+use Rattle.dspec_cpu.specs.Words.{Deed, SlotState, rests, Settled, SettledAfter, SettledSlot, SettledSlots, SlotDone, View}
 use Rattle.dspec_cpu.proofs.ReachDeeds.{goes_on}
 
 -- one Settle where the slot was settled, and none where it was passed
-here_count : (hit : Bool) (c slot : ℕ) (shown : SlotState) (u : View) (ds : List Deed) (w : View) → SettledBehind hit c slot shown u ds w → length ds ≡ (if hit then 1 else 0)
+here_count : (hit : Bool) (c slot : ℕ) (shown : SlotState) (u : View) (ds : List Deed) (w : View) → SettledAfter hit c slot shown u ds w → length ds ≡ (if hit then 1 else 0)
 here_count true c slot shown u ds w b = ap length b.2
 here_count false c slot shown u ds w b = ap length b.0
 
@@ -29,13 +29,13 @@ slot_more c n count had mid has v u w hit was done =
     let e : suc n ≡ n + 1 = omega arith in
     let le = was.bounded in
     let two = done.bounded in
-    let behind = here_count hit c (n + 1) done.slot_is.shown done.slot_is.loaded here w done.slot_is.behind in
+    let after = here_count hit c (n + 1) done.slot_is.shown done.slot_is.loaded here w done.slot_is.after in
     let all = length-append here before in
     let counted = was.number in
     record {
       settles = here ++ before;
       slots = subst (λ m. SettledSlots c v m (here ++ before) w) e (before, u, hit, here, was.slots, subst (λ m. SettledSlot c m u hit here w) (sym e) done.slot_is, refl);
-      number = go hit behind;
+      number = go hit after;
       goes = goes_on was.goes done.goes;
       bounded = omega arith;
       list = λ p h. subst has (sym (append_assoc here before p)) (done.list (before ++ p) (was.list p h));

@@ -8,7 +8,7 @@ use Rattle.dspec_cpu.specs.declared.parts.CpuParts.{CpuParts as Cpu}
 use Rattle.dspec_deeds.proofs.OwnReads.{apart_bare}
 use Rattle.dspec_table.specs.declared.seats.Words.{Words}
 use Rattle.dspec_table.proofs.InFlight.{looks}
-use Rattle.dspec_cpu.proofs.{ReachDeeds.goes_on, Ready.holder, Ready.ready_after, Ready.set_up_is, Ready.stands_behind, Settlements.grant_tells}
+use Rattle.dspec_cpu.proofs.{ReachDeeds.goes_on, Ready.holder, Ready.ready_after, Ready.set_up_is, Ready.stands_after, Settlements.grant_tells}
 
 -- a speculation that isn't decided waits for no CPU
 pub not_awaiting : (c : Code) → is_decided c ≡ false → awaits c ≡ false
@@ -47,7 +47,7 @@ module _ (shape : ℕ → Option Shape) (accepted : Record → Bool) (text : Rec
       (looks v.config (number_of v.who) (shown (serving false 0 false) word false) idle_progress slot record { sealed = false; settled = 0 } word (settle_at word 0)) step.3
 
   load_stands : Stands cpu.config cpu.cpu v [] u
-  load_stands = stands_behind cpu.config cpu.cpu v u step.0 [] (set_up_is shape accepted text words cpu ready) (holder shape accepted text words cpu ready) entered
+  load_stands = stands_after cpu.config cpu.cpu v u step.0 [] (set_up_is shape accepted text words cpu ready) (holder shape accepted text words cpu ready) entered
 
   load_goes : Goes v [] u
   load_goes = steps u [] [] step.0 rests step.1 (inl entered) refl
@@ -97,9 +97,9 @@ module _ (shape : ℕ → Option Shape) (accepted : Record → Bool) (text : Rec
       loaded = u;
       load = step;
       granted = sym (ap (λ l. is_granted (settle_at word (ack cpu.cpu slot l))) (sym load_stands.own) ∙ ap is_granted due.granted);
-      behind = done.behind;
+      after = done.after;
     };
     goes = subst (λ l. Goes v l w) (append-nil done.settles) (goes_on load_goes done.goes);
-    bounded = let one = one_step in let two : w.steps ≡ u.steps + 1 = ap (λ (x : View). x.steps) done.behind.3.2.view in omega arith;
+    bounded = let one = one_step in let two : w.steps ≡ u.steps + 1 = ap (λ (x : View). x.steps) done.after.3.2.view in omega arith;
     list = λ p had. done.list p (loaded_list p had);
   }

@@ -31,9 +31,9 @@ module _ (shape : ℕ → Option Shape) (accepted : Record → Bool) (text : Rec
   shows = record { parts = was.side; counted = was.counted }
 
   -- a side that shows a deed of the CPU's in front, which is no Seal, and the batches show it
-  pub shown_behind : (d : Deed) → is_seal d ≡ false → is_of c d ≡ true → CpuRow shape k p d → (now : CpuState Stored) → ShowsList stores size_of k c (d ∷ p) now
+  pub shown_after : (d : Deed) → is_seal d ≡ false → is_of c d ≡ true → CpuRow shape k p d → (now : CpuState Stored) → ShowsList stores size_of k c (d ∷ p) now
       → AreShown shape accepted text k c (parts_of_side now) batches now.counts (d ∷ p)
-  shown_behind d unsealed mine row now shown = grind (arith, nat_tests, sealed_on)
+  shown_after d unsealed mine row now shown = grind (arith, nat_tests, sealed_on)
 
 module _ (shape : ℕ → Option Shape) (accepted : Record → Bool) (text : Record → List ℕ) {S : Type 0} (cpu : Cpu S) (p : List Deed) (was : IsShown shape accepted text cpu p) where
   -- what shows the list shows it with a quiet deed in front, once numbers and counts are those of the longer list
@@ -41,5 +41,5 @@ module _ (shape : ℕ → Option Shape) (accepted : Record → Bool) (text : Rec
       → n ≡ calls cpu.cpu (d ∷ p) → missed ≡ missed_busy cpu.cpu (d ∷ p) → drops ≡ (growing cpu.cpu (d ∷ p)).drops → counts ≡ counts_of cpu.config cpu.cpu counts.worn (d ∷ p)
       → IsShown shape accepted text (record cpu { seat = seat; side = record cpu.side { calls = n; missed_busy = missed; drops = drops; counts = counts } }) (d ∷ p)
   quiet_shown d e mine row seat n missed drops counts call_is missed_is drops_is counts_is =
-      shown_behind shape accepted text cpu.side p was d (quiet_unsealed d e) mine row (record cpu.side { calls = n; missed_busy = missed; drops = drops; counts = counts })
+      shown_after shape accepted text cpu.side p was d (quiet_unsealed d e) mine row (record cpu.side { calls = n; missed_busy = missed; drops = drops; counts = counts })
       (side.quiet_shown (HasPieces shape accepted text) (λ b. b.size) p (shows shape accepted text cpu.side p was) d e n missed drops counts call_is missed_is drops_is counts_is)

@@ -7,7 +7,7 @@ use Rattle.dspec_cpu.specs.declared.scanning.Look.{Look}
 use Rattle.dspec_deeds.specs.declared.calls.CpuOp.TheVariants as op
 use Rattle.dspec_table.proofs.Flights.{flight_by_last, misses_slot, tries_slot}
 use Rattle.dspec_cpu.specs.declared.scanning.Look.TheVariants as look
-use Rattle.dspec_cpu.proofs.{Ready.stands_behind, Touching.touched_more, Touching.touched_one}
+use Rattle.dspec_cpu.proofs.{Ready.stands_after, Touching.touched_more, Touching.touched_one}
 
 abbrev pub asked : Doing
 asked = record { op = op.Speculation; fits = false; count = 0; mine = false }
@@ -31,7 +31,7 @@ module _ (k : Config) (c slot : ℕ) (v : View) (config : v.config ≡ k) (who :
       let one : w.steps ≡ v.steps + 1 = ap (λ (x : View). x.steps) entered.view in
       record {
         goes = steps w (Miss c slot b ∷ []) (Miss c slot b ∷ []) step.0 rests step.1 (inl entered) refl;
-        stands = stands_behind k c v w step.0 (Miss c slot b ∷ []) config who entered;
+        stands = stands_after k c v w step.0 (Miss c slot b ∷ []) config who entered;
         bounded = omega arith;
         touches = touched_one (at_slot slot) v w (slot_place slot) (ap (λ (x : View). x.touched) entered.view) refl;
         given = tt;
@@ -48,12 +48,12 @@ module _ (k : Config) (c slot : ℕ) (v : View) (config : v.config ≡ k) (who :
       let u_who : u.who ≡ of_cpu c = ap (λ (y : View). y.who) first.view ∙ who in
       let entered : Entered (slot_place slot) u step.0 (look_deed c slot x ∷ []) w = subst (λ ds. Entered (slot_place slot) u step.0 ds w)
       ((λ i. at_exchange (u_config i) (number_of (u_who i)) nothing slot shown hit op.Speculation) ∙ deed) step.3 in
-      let last = stands_behind k c u w step.0 (look_deed c slot x ∷ []) u_config u_who entered in
+      let last = stands_after k c u w step.0 (look_deed c slot x ∷ []) u_config u_who entered in
       let one : u.steps ≡ v.steps + 1 = ap (λ (y : View). y.steps) first.view in
       let two : w.steps ≡ u.steps + 1 = ap (λ (y : View). y.steps) entered.view in
       record {
         goes = steps w (look_deed c slot x ∷ []) (look_deed c slot x ∷ []) step.0 (steps u [] [] load.0 rests load.1 (inl first) refl) step.1 (inl entered) refl;
-        stands = stands_more k c v u w (look_deed c slot x) [] (stands_behind k c v u load.0 [] config who first) last;
+        stands = stands_more k c v u w (look_deed c slot x) [] (stands_after k c v u load.0 [] config who first) last;
         bounded = omega arith;
         touches = touched_more (at_slot slot) v u w (slot_place slot) (touched_one (at_slot slot) v u (slot_place slot) (ap (λ (y : View). y.touched) first.view) refl)
             (ap (λ (y : View). y.touched) entered.view) refl;

@@ -7,7 +7,7 @@ use Rattle.dspec_deeds.specs.declared.calls.CpuOp.TheVariants as op
 use Rattle.dspec_deeds.specs.declared.deed.SpeculateFate.TheVariants as spoken
 use Rattle.dspec_deeds.proofs.{OwnReads.apart_bare, TestLemmas.number_is_itself}
 use Rattle.dspec_cpu.specs.declared.reaching.Reach.TheVariants as reach
-use Rattle.dspec_cpu.proofs.{Mine.unmarked_empty, Shown.stores, Shown.size_of, Shown.shown_behind}
+use Rattle.dspec_cpu.proofs.{Mine.unmarked_empty, Shown.stores, Shown.size_of, Shown.shown_after}
 
 abbrev pub asked : Speculation → Record → Bool → Bool → Doing
 asked id r fit mine = record { op = op.Speculate id r; fits = fit; count = 0; mine = mine }
@@ -46,7 +46,7 @@ module _ (shape : ℕ → Option Shape) (accepted : Record → Bool) (text : Rec
       → AreShown shape accepted text k c (parts_of_side now) batches now.counts (Speculate c id r (if b then spoken.Kept else spoken.Dropped) ∷ p)
   granted_shown id r kept b is fitting now shown =
       subst (λ x. AreShown shape accepted text k c (parts_of_side now) batches now.counts (Speculate c id r (if x then spoken.Kept else spoken.Dropped) ∷ p)) is
-      (shown_behind shape accepted text side p was (Speculate c id r (if kept then spoken.Kept else spoken.Dropped)) refl (number_is_itself c) (row kept fitting) now shown)
+      (shown_after shape accepted text side p was (Speculate c id r (if kept then spoken.Kept else spoken.Dropped)) refl (number_is_itself c) (row kept fitting) now shown)
     where
       row : (x : Bool) → x ≡ fits_speculative shape k c id r p → CpuRow shape k p (Speculate c id r (if x then spoken.Kept else spoken.Dropped))
       row true e = e

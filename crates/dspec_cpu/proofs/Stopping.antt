@@ -11,13 +11,13 @@ halted_since : (w : Holder) (seen log : List Deed) → Since w seen log → halt
 halted_since w seen _ here e = e
 halted_since w seen (d ∷ h) (more s other) e = or_yes (is_halt d) (halted h) (halted_since w seen h s e)
 
-halted_behind : (ds log : List Deed) → halted log ≡ true → halted (ds ++ log) ≡ true
-halted_behind [] log e = e
-halted_behind (d ∷ ds) log e = or_yes (is_halt d) (halted (ds ++ log)) (halted_behind ds log e)
+halted_after : (ds log : List Deed) → halted log ≡ true → halted (ds ++ log) ≡ true
+halted_after [] log e = e
+halted_after (d ∷ ds) log e = or_yes (is_halt d) (halted (ds ++ log)) (halted_after ds log e)
 
 -- the load of activity showed a stop
 pub shown_stop : (doing : Doing) (v w : View) → LoadedActivity doing v true w → StopsWhereMet v false true w
-shown_stop doing v w step = grind (arith, nat_tests, halted_behind)
+shown_stop doing v w step = grind (arith, nat_tests, halted_after)
 
 -- or that the session runs, whatever came then
 pub shown_running : (doing : Doing) (v u w : View) → LoadedActivity doing v false u → StopsWhereMet v false false w

@@ -2,7 +2,7 @@
 use Rattle.std.proofs.Common.{◌≡◌, ◌+◌, ◌*◌, ℕ, zero, suc, Bool, true, false, List, [], ◌∷◌, ◌++◌, length, refl, sym, ap, ◌∙◌, ⊎_elim, append_assoc, arith}
 use Rattle.std.proofs.lemmas.Bool.Decides.{nat_tests}
 use Rattle.dspec_cpu.specs.Words.{Speculation, SlotState, settled_fate, did, Did, is_stopped_opening, calling, known, Entered, EnteredIn, called, WithService, Goes, rests, steps, CallLeaves}
-use Rattle.dspec_cpu.specs.Words.{config_of, number_in, seat_of, worn_of, OpensOne, Opens, is_worn_opening, Serves, SettledBehind, SettledSlots, shown_at, Buffers, Switches, never, looked}
+use Rattle.dspec_cpu.specs.Words.{config_of, number_in, seat_of, worn_of, OpensOne, Opens, is_worn_opening, Serves, SettledAfter, SettledSlots, shown_at, Buffers, Switches, never, looked}
 use Rattle.dspec_cpu.specs.Words.{last_looked, of_slots, Opening, Served, Config, DecideFate, Deed, Settle, View}
 use Rattle.dspec_cpu.specs.declared.parts.CpuParts.{CpuParts as Cpu}
 use Rattle.dspec_cpu.proofs.Told.{opening_told, settles, settles_told}
@@ -38,15 +38,15 @@ settles_length : (c : ℕ) (ss : List (Speculation × DecideFate)) → length (s
 settles_length c [] = refl
 settles_length c (s ∷ ss) = omega (arith, settles_length c ss)
 
-settled_behind : (hit : Bool) (c slot : ℕ) (shown : SlotState) (v w : View) (ds : List Deed) → SettledBehind hit c slot shown v ds w
+settled_after : (hit : Bool) (c slot : ℕ) (shown : SlotState) (v w : View) (ds : List Deed) → SettledAfter hit c slot shown v ds w
     → (ss : List (Speculation × DecideFate)) × (ds ≡ settles c ss)
-settled_behind true c slot shown v w ds s = ((shown_at slot shown, settled_fate shown.code s.0.fits s.0.count) ∷ [], s.2)
-settled_behind false c slot shown v w ds s = ([], s.0)
+settled_after true c slot shown v w ds s = ((shown_at slot shown, settled_fate shown.code s.0.fits s.0.count) ∷ [], s.2)
+settled_after false c slot shown v w ds s = ([], s.0)
 
 settled_slots : (c : ℕ) (v w : View) (n : ℕ) (ds : List Deed) → SettledSlots c v n ds w → (ss : List (Speculation × DecideFate)) × (ds ≡ settles c ss)
 settled_slots c v w zero ds s = ([], s.0)
 settled_slots c v w (suc n) ds s =
-    let here = settled_behind s.2 c (suc n) s.5.shown s.5.loaded w s.3 s.5.behind in
+    let here = settled_after s.2 c (suc n) s.5.shown s.5.loaded w s.3 s.5.after in
     let before = settled_slots c v s.1 n s.0 s.4 in
     (here.0 ++ before.0, s.6 ∙ ((λ i. here.1 i ++ before.1 i) ∙ sym (settles_append c here.0 before.0)))
 

@@ -1,7 +1,7 @@
 -- The words that steps touch, one after the other.
 use Rattle.std.proofs.Common.{◌≡◌, ℕ, zero, suc, ◌+◌, ◌≤◌, Bool, true, false, List, [], ◌∷◌, ◌++◌, get_or, refl, sym, ap, ◌∙◌, subst, inl, inr, arith, append_assoc}
 use Rattle.std.proofs.lemmas.{Bool.Decides.nat_tests, List.Elements.All-nil, List.Elements.All-cons, List.Elements.All-append}
-use Rattle.dspec_cpu.specs.Words.{SlotState, of_cpu, number_of, ack_place, slot_place, Serves, SettledBehind, SettledSlot, SettledSlots, Buffers, Switches, Touches, at_slot, of_service, of_slots}
+use Rattle.dspec_cpu.specs.Words.{SlotState, of_cpu, number_of, ack_place, slot_place, Serves, SettledAfter, SettledSlot, SettledSlots, Buffers, Switches, Touches, at_slot, of_service, of_slots}
 use Rattle.dspec_cpu.specs.Words.{Config, Deed, Served, View}
 
 pub none_touched : (within : ℕ → Type 0) (v : View) → Touches within v v
@@ -58,10 +58,10 @@ slot_loaded k c slot v hit ds w config who one most done =
     }
 
 slot_settled : (k : Config) (c slot : ℕ) (shown : SlotState) (v u : View) (ds : List Deed) (w : View) → 1 ≤ slot → slot ≤ k.nspec → ServesWithin k c v u
-    → (hit : Bool) → SettledBehind hit c slot shown u ds w → ServesWithin k c v w
-slot_settled k c slot shown v u ds w one most was false behind = subst (λ x. ServesWithin k c v x) behind.1 was
-slot_settled k c slot shown v u ds w one most was true behind =
-    let view = behind.3.2.view in
+    → (hit : Bool) → SettledAfter hit c slot shown u ds w → ServesWithin k c v w
+slot_settled k c slot shown v u ds w one most was false after = subst (λ x. ServesWithin k c v x) after.1 was
+slot_settled k c slot shown v u ds w one most was true after =
+    let view = after.3.2.view in
     let place : ack_place u.config (number_of u.who) slot ≡ ack_place k c slot = λ i. ack_place (was.config i) (number_of (was.who i)) slot in
     record {
       touches = touched_more (of_service k c) v u w (ack_place u.config (number_of u.who) slot) was.touches (ap (λ (x : View). x.touched) view) (inr (slot, one, most, inr place));
@@ -75,7 +75,7 @@ slots_served k c v (suc n) ds w config who most done =
     let was = slots_served k c v n done.0 done.1 config who (omega arith) done.4 in
     let one : 1 ≤ suc n = omega arith in
     let load = slot_loaded k c (suc n) done.1 done.2 done.3 w was.config was.who one most done.5 in
-    let now = slot_settled k c (suc n) done.5.shown done.1 done.5.loaded done.3 w one most load done.2 done.5.behind in
+    let now = slot_settled k c (suc n) done.5.shown done.1 done.5.loaded done.3 w one most load done.2 done.5.after in
     record { touches = touched_on (of_service k c) v done.1 w was.touches now.touches; config = now.config; who = now.who }
 
 switch_served : (k : Config) (c : ℕ) (v : View) (x : Buffers) (sealed : Bool) (w : View) (y : Buffers) → v.config ≡ k → v.who ≡ of_cpu c → Switches k c v x sealed w y → ServesWithin k c v w

@@ -6,7 +6,7 @@ use Rattle.dspec_deeds.specs.declared.calls.CpuOp.TheVariants as op
 use Rattle.dspec_deeds.specs.declared.deed.TraceFate.TheVariants as traced
 use Rattle.dspec_buffer.specs.Extent as extent
 use Rattle.dspec_table.proofs.Flights.{activity_enters}
-use Rattle.dspec_cpu.proofs.Ready.{stands_behind, stands_called}
+use Rattle.dspec_cpu.proofs.Ready.{stands_after, stands_called}
 
 abbrev pub asked : Record → Bool → Doing
 asked r fit = record { op = op.Trace r; fits = fit; count = 0; mine = false }
@@ -31,7 +31,7 @@ traces k c v w r fit b f config who step is =
     let entered : Entered activity_place (calling (op.Trace r) v) step.0 (Trace c r f ∷ []) w = subst (λ ds. Entered activity_place (calling (op.Trace r) v) step.0 ds w) deeds step.3 in
     record {
       goes = steps w (Trace c r f ∷ []) (Trace c r f ∷ []) step.0 rests step.1 (activity_enters (asked r fit) v b w (Trace c r f ∷ []) step deeds) refl;
-      stands = stands_called k c (op.Trace r) v w (Trace c r f ∷ []) (stands_behind k c (calling (op.Trace r) v) w step.0 (Trace c r f ∷ []) config who entered) refl;
+      stands = stands_called k c (op.Trace r) v w (Trace c r f ∷ []) (stands_after k c (calling (op.Trace r) v) w step.0 (Trace c r f ∷ []) config who entered) refl;
     }
 
 -- a record that was kept where it fits, and dropped where it doesn't

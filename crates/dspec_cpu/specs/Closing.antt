@@ -1,6 +1,6 @@
 -- Cited by calls. What the close of a session does with what is left of a CPU, by which lists that has.
 use Rattle.std.specs.Prelude.{ℕ, ◌≡◌, Bool, List, ◌++◌, reverse, Option}
-use Rattle.dspec_cpu.specs.{Rests.CanCloseBehind, Rests.IsLegalPart, Rests.config_of_rest, Rests.number_of_rest, Rests.schema_of_rest, Rests.worn_of_rest, Sealed.AreSealed, Sealed.IsSealed}
+use Rattle.dspec_cpu.specs.{Rests.CanCloseAfter, Rests.IsLegalPart, Rests.config_of_rest, Rests.number_of_rest, Rests.schema_of_rest, Rests.worn_of_rest, Sealed.AreSealed, Sealed.IsSealed}
 use Rattle.dspec_cpu.specs.{Sealed.waiting, Settled.IsPartOf, Words.Outside.Record, Words.Outside.word_at, Words.Outside.report, Words.Outside.own_closed, Words.Outside.own_closed_slot}
 use Rattle.dspec_cpu.specs.{Words.Outside.Shows, Words.Outside.Shape, Words.Outside.Batch, Words.Outside.Deed, Words.Outside.Report, declared.rest.CpuRest.CpuRest}
 
@@ -23,12 +23,12 @@ module _ {S : Type 0} (has : CpuRest S → List Batch → List Deed → Type 0) 
   abbrev pub CanSettleSlot : ℕ → List ℕ → CpuRest S → Type 0
   CanSettleSlot slot words rest =
       (handed : List Batch) × (p : List Deed) × (log : List Deed) × (now : List Deed) × has rest handed p
-      × CanCloseBehind (config_of_rest rest) (number_of_rest rest) slot words log now p
+      × CanCloseAfter (config_of_rest rest) (number_of_rest rest) slot words log now p
 
   abbrev pub SettlesSlot : ℕ → List ℕ → CpuRest S → CpuRest S → Type 0
   SettlesSlot slot words old new =
       (handed : List Batch) (p log now : List Deed) → has old handed p
-      → CanCloseBehind (config_of_rest old) (number_of_rest old) slot words log now p
+      → CanCloseAfter (config_of_rest old) (number_of_rest old) slot words log now p
       → has new handed (own_closed_slot (shape_of (schema_of_rest old)) (config_of_rest old) (λ s. word_at s log) (number_of_rest old) slot p)
 
   -- it has a list that is the CPU's part of a legal one

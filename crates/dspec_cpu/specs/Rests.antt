@@ -51,7 +51,7 @@ pub record AreItsWords (last : LastWords) (k : Config) (c : ℕ) : Type 0 where
   pub one : c < k.cpus
 
 -- The last words show a list whose part of the CPU is its list, with the settlements of the slots below put in front of both.
-pub record CanCloseBehind (k : Config) (c slot : ℕ) (words : List ℕ) (log now p : List Deed) : Type 0 where
+pub record CanCloseAfter (k : Config) (c slot : ℕ) (words : List ℕ) (log now p : List Deed) : Type 0 where
   pub shows : Shows k words log
   pub part_is : IsPartOf k c now p
   pub word : word_at slot now ≡ word_at slot log

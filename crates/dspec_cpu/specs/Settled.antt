@@ -17,9 +17,9 @@ abbrev pub serving : Bool → ℕ → Bool → Doing
 serving fit n mine = record { op = op.Service; fits = fit; count = n; mine = mine }
 
 -- after the load of a slot's word: the speculation that it shows was settled, or nothing was done
-abbrev pub SettledBehind : Bool → ℕ → ℕ → SlotState → View → List Deed → View → Type 0
-SettledBehind false c slot shown v ds w = (ds ≡ []) × (v ≡ w)
-SettledBehind true c slot shown v ds w =
+abbrev pub SettledAfter : Bool → ℕ → ℕ → SlotState → View → List Deed → View → Type 0
+SettledAfter false c slot shown v ds w = (ds ≡ []) × (v ≡ w)
+SettledAfter true c slot shown v ds w =
     (doing : Doing) × (doing.op ≡ op.Service) × (ds ≡ Settle c (shown_at slot shown) (settled_fate shown.code doing.fits doing.count) ∷ [])
     × SettledWord doing (shown_at slot shown) shown.code v w
 
@@ -34,7 +34,7 @@ pub record IsDueAt (c slot : ℕ) (shown : SlotState) (v : View) : Type 0 where
 -- what was due is settled: its Settle comes in front of every list that the CPU had
 pub record DueSettled (c slot : ℕ) (shown : SlotState) (had : List Deed → Type 0) (v : View) (has : List Deed → Type 0) (w : View) : Type 0 where
   pub settles : List Deed
-  pub behind : SettledBehind true c slot shown v settles w
+  pub after : SettledAfter true c slot shown v settles w
   pub goes : Goes v settles w
   pub list : (p : List Deed) → had p → has (settles ++ p)
 
@@ -44,7 +44,7 @@ pub record SettledSlot (c slot : ℕ) (v : View) (hit : Bool) (ds : List Deed) (
   pub loaded : View
   pub load : LoadedWord (serving false 0 false) slot v shown loaded
   pub granted : hit ≡ is_granted (settle_at shown (ack c slot v.own))
-  pub behind : SettledBehind hit c slot shown loaded ds w
+  pub after : SettledAfter hit c slot shown loaded ds w
 
 -- its Settle, if there is one, comes in front of every list that the CPU had
 pub record SlotDone (c slot : ℕ) (hit : Bool) (had : List Deed → Type 0) (v : View) (has : List Deed → Type 0) (w : View) : Type 0 where

@@ -16,12 +16,12 @@ pub use Rattle.dspec_cpu.specs.OpenAt.{IsOpenAt}
 pub use Rattle.dspec_cpu.specs.Reached.{Reached, Stands}
 pub use Rattle.dspec_cpu.specs.Reaching.{act_by, act_of, act_reached, EndsAtWord, is_attempt, is_committing, is_reached, IsPresentAt, OwnsCommit, reached_deeds, releases_next, Shown, speculating}
 pub use Rattle.dspec_cpu.specs.Reaching.{TakesTurn, turns}
-pub use Rattle.dspec_cpu.specs.Rests.{AreItsWords, batches_of_rest, CanCloseBehind, config_of_rest, held_back_of_rest, IsLegalPart, IsSameRest, number_of_rest, RestHasList, schema_of_rest}
+pub use Rattle.dspec_cpu.specs.Rests.{AreItsWords, batches_of_rest, CanCloseAfter, config_of_rest, held_back_of_rest, IsLegalPart, IsSameRest, number_of_rest, RestHasList, schema_of_rest}
 pub use Rattle.dspec_cpu.specs.Rests.{worn_of_rest}
 pub use Rattle.dspec_cpu.specs.Scans.{any_busy, is_worn_opening, IsGivenAt, IsOpening, look_deed, LookedAtSlot, misses, opening_deeds, Opens, Scanned}
 pub use Rattle.dspec_cpu.specs.Sealed.{AreSealed, HasSized, IsSealed, waiting}
 pub use Rattle.dspec_cpu.specs.Serving.{Serves}
-pub use Rattle.dspec_cpu.specs.Settled.{BlockSettled, CanSettle, DueSettled, IsDueAt, IsPartOf, KeepsBatches, serving, Settled, SettledBehind, SettledSlot, SettledSlots, shown_at, SlotDone}
+pub use Rattle.dspec_cpu.specs.Settled.{BlockSettled, CanSettle, DueSettled, IsDueAt, IsPartOf, KeepsBatches, serving, Settled, SettledAfter, SettledSlot, SettledSlots, shown_at, SlotDone}
 pub use Rattle.dspec_cpu.specs.Standing.{Belongs, CpuIdentity, identity, IsCallable}
 pub use Rattle.dspec_cpu.specs.Stops.{is_stopped_decided, is_stopped_reach, StopsWhereMet}
 pub use Rattle.dspec_cpu.specs.Switching.{batch_of, Buffers, buffers_of, emptied, FindsSpare, HandsOn, Heeds, held_up, IsSameBeside, looked, most_moves, never, no_spare, not_asked, switched}

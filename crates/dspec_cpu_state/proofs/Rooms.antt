@@ -6,8 +6,8 @@ use Rattle.dspec_deeds.proofs.TestLemmas.{same_number}
 
 module _ (shape : ℕ → Option Shape) (r : Record) (h : Shape) (n : ℕ) (is : shape r.epid ≡ Some h) where
   -- after these pieces
-  pub behind_fits : (ps : List Piece) → nat_le (reserved (extent shape ps) h.align h.size) n ≡ piece_fits shape ps (one r) n
-  behind_fits ps = rw is refl
+  pub after_fits : (ps : List Piece) → nat_le (reserved (extent shape ps) h.align h.size) n ≡ piece_fits shape ps (one r) n
+  after_fits ps = rw is refl
 
   -- at the front nothing is rounded up
   at_front : (h.align ≡ 4) ⊎ (h.align ≡ 8) → reserved 0 h.align h.size ≡ h.size

@@ -29,20 +29,20 @@ block_fits shape ps mine rs size = piece_fits shape ps (block (own_only mine rs)
 
 -- a side after a decision, but for its buffers, which are as they are after it
 abbrev pub decided_side : {B : Type 0} → DecideFate → CpuState B → CpuState B → CpuState B
-decided_side fate before behind = record before {
+decided_side fate before after = record before {
   calls = before.calls + 1;
-  active = behind.active;
-  speculative = behind.speculative;
+  active = after.active;
+  speculative = after.speculative;
   drops = before.drops + (if is_lost fate then 1 else 0);
   counts = with_decided fate before.counts;
 }
 
 -- a side after a settlement, but for its buffers and acknowledgements, which are as they are after it
 abbrev pub settled_side : {B : Type 0} → DecideFate → CpuState B → CpuState B → CpuState B
-settled_side fate before behind = record before {
-  acks = behind.acks;
-  active = behind.active;
-  speculative = behind.speculative;
+settled_side fate before after = record before {
+  acks = after.acks;
+  active = after.active;
+  speculative = after.speculative;
   drops = before.drops + (if is_lost fate then 1 else 0);
   counts = with_decided fate before.counts;
 }
@@ -56,41 +56,41 @@ TellsBlock k counts room count takes =
 
 -- the buffer at this place of a list has changed; its size is the same, and `Changes` says what it has become
 abbrev pub ChangesAt : {B : Type 0} → (B → ℕ) → ℕ → List B → List B → (B → B → Type 0) → Type 0
-ChangesAt {B} capacity place before behind Changes =
-    (b : B) → slice_get before place ≡ Some b → (n : B) × (capacity n ≡ capacity b) × (behind ≡ slice_set before place n) × Changes b n
+ChangesAt {B} capacity place before after Changes =
+    (b : B) → slice_get before place ≡ Some b → (n : B) × (capacity n ≡ capacity b) × (after ≡ slice_set before place n) × Changes b n
 
 module _ {B : Type 0} (keeps : B → List Piece → Type 0) (capacity : B → ℕ) where
   -- the block of the buffer at this place is said to fit only where it does; where it is said to, the active buffer has it in front
   abbrev pub TakesBlock : (ℕ → Option Shape) → Bool → Bool → ℕ → List B → B → B → Type 0
-  TakesBlock shape mine fit place buffers before behind =
+  TakesBlock shape mine fit place buffers before after =
       (ps : List Piece) (rs : List Record) (b : B) → slice_get buffers place ≡ Some b → keeps before ps → keeps b (map one rs)
-      → (fit ≡ true → block_fits shape ps mine rs (capacity before) ≡ true) → keeps behind (if fit then block (own_only mine rs) ∷ ps else ps)
+      → (fit ≡ true → block_fits shape ps mine rs (capacity before) ≡ true) → keeps after (if fit then block (own_only mine rs) ∷ ps else ps)
 
   -- a buffer of a speculation keeps a record where that fits after what the CPU has there, and still has what the CPU has there
   abbrev pub KeepsRecord : (ℕ → Option Shape) → Bool → Record → Bool → B → B → Type 0
-  KeepsRecord shape mine r kept before behind =
+  KeepsRecord shape mine r kept before after =
       (ps : List Piece) → keeps before ps → (kept ≡ piece_fits shape (own_only mine ps) (one r) (capacity before))
-      × keeps behind (if kept then one r ∷ own_only mine ps else own_only mine ps)
+      × keeps after (if kept then one r ∷ own_only mine ps else own_only mine ps)
 
   module _ (k : Config) (c : ℕ) (p : List Deed) where
     -- after the deed, a side that showed this list shows it with the deed in front
     abbrev pub ShowsNext : Deed → CpuState B → CpuState B → Type 0
-    ShowsNext d before behind = ShowsList keeps capacity k c p before → ShowsList keeps capacity k c (d ∷ p) behind
+    ShowsNext d before after = ShowsList keeps capacity k c p before → ShowsList keeps capacity k c (d ∷ p) after
 
     -- after a Seal, where the buffer that was to be the active one is empty
     abbrev pub ShowsSeal : B → CpuState B → CpuState B → Type 0
-    ShowsSeal next before behind =
-        ShowsList keeps capacity k c p before → IsFilledWith keeps capacity k.bufsize [] next → ShowsList keeps capacity k c (Seal c ∷ p) behind
+    ShowsSeal next before after =
+        ShowsList keeps capacity k c p before → IsFilledWith keeps capacity k.bufsize [] next → ShowsList keeps capacity k c (Seal c ∷ p) after
 
     -- after a record that was granted to a speculation, of which the CPU was a caller before or not, and kept or not
     abbrev pub ShowsGrant : Speculation → Bool → Record → Bool → CpuState B → CpuState B → Type 0
-    ShowsGrant id mine r kept before behind =
-        ShowsList keeps capacity k c p before → IsCaller c id mine p → ShowsList keeps capacity k c (Speculate c id r (kept_grant kept) ∷ p) behind
+    ShowsGrant id mine r kept before after =
+        ShowsList keeps capacity k c p before → IsCaller c id mine p → ShowsList keeps capacity k c (Speculate c id r (kept_grant kept) ∷ p) after
 
     -- a deed that ends the CPU's block of a speculation: the side shows it in front where it does end one and is legal
     abbrev pub ShowsEnded : (ℕ → Option Shape) → Speculation → Bool → Bool → Deed → CpuState B → CpuState B → Type 0
-    ShowsEnded shape id mine ends d before behind =
-        ShowsList keeps capacity k c p before → IsCaller c id mine p → ends ≡ true → CpuLegal shape k p d → ShowsList keeps capacity k c (d ∷ p) behind
+    ShowsEnded shape id mine ends d before after =
+        ShowsList keeps capacity k c p before → IsCaller c id mine p → ends ≡ true → CpuLegal shape k p d → ShowsList keeps capacity k c (d ∷ p) after
 
     -- of a side that shows this list: whether the active principal buffer, closed or not, takes a record
     abbrev pub TellsRecordRoom : (ℕ → Option Shape) → Bool → Record → CpuState B → Bool → Type 0

@@ -5,9 +5,9 @@ use Rattle.dspec_ctf.specs.Words.{Record, EnabledRows, IsText, AreTexts, IsAdded
 
 more-texts : (e : EnabledRows) (texts : List (List ℕ)) (text : List ℕ) (rs added all : List Record) → AreTexts e texts rs → IsText e text added → all ≡ rs ++ added
     → AreTexts e (texts ++ text ∷ []) all
-more-texts e [] text rs added all none is behind =
-    (added, ([], (is, (refl, behind ∙ ap (λ front. front ++ added) none ∙ sym (append-nil added)))))
-more-texts e (t ∷ texts) text rs added all (first, (rest, (is_first, (are_rest, whole)))) is behind = (
+more-texts e [] text rs added all none is grown =
+    (added, ([], (is, (refl, grown ∙ ap (λ front. front ++ added) none ∙ sym (append-nil added)))))
+more-texts e (t ∷ texts) text rs added all (first, (rest, (is_first, (are_rest, whole)))) is grown = (
   first,
   (
     rest ++ added,
@@ -15,7 +15,7 @@ more-texts e (t ∷ texts) text rs added all (first, (rest, (is_first, (are_rest
       is_first,
       (
         more-texts e texts text rest added (rest ++ added) are_rest is refl,
-        behind ∙ ap (λ front. front ++ added) whole ∙ append_assoc first rest added,
+        grown ∙ ap (λ front. front ++ added) whole ∙ append_assoc first rest added,
       ),
     ),
   ),
@@ -23,7 +23,7 @@ more-texts e (t ∷ texts) text rs added all (first, (rest, (is_first, (are_rest
 
 pub AreTexts-push : (e : EnabledRows) (texts : List (List ℕ)) (text : List ℕ) (before after : List Record) → AreTexts e texts before → IsAdded e text before after
     → AreTexts e (texts ++ text ∷ []) after
-AreTexts-push e texts text before after are one = more-texts e texts text before one.added after are one.is_text one.behind
+AreTexts-push e texts text before after are one = more-texts e texts text before one.added after are one.is_text one.grown
 
 one-later : {A : Type 0} (e : EnabledRows) (name : A → List ℕ) (xs : List A) (place : ℕ) (d : A) (before after : List Record) → place < length xs
     → AreTexts e (take place (map name xs)) before → IsAdded e (name (slice_index_or xs place d)) before after → AreTexts e (take (suc place) (map name xs)) after
@@ -36,8 +36,8 @@ one-later e name (x ∷ xs) (suc place) d before after below (first, (rest, (is_
     (
       is_first,
       (
-        one-later e name xs place d rest (rest ++ one.added) (omega (arith, below)) are_rest (record { added = one.added; is_text = one.is_text; behind = refl }),
-        one.behind ∙ ap (λ front. front ++ one.added) whole ∙ append_assoc first rest one.added,
+        one-later e name xs place d rest (rest ++ one.added) (omega (arith, below)) are_rest (record { added = one.added; is_text = one.is_text; grown = refl }),
+        one.grown ∙ ap (λ front. front ++ one.added) whole ∙ append_assoc first rest one.added,
       ),
     ),
   ),

@@ -97,7 +97,7 @@ module _ (timed : Bool) (e : EnabledRows) (uuid : List ℕ) (missed cpu : ℕ) w
       → portions_from timed e held (r ∷ rs) ≡ cond b (portions_from timed e (held ++ r ∷ []) rs) (held ∷ portions_from timed e (r ∷ []) rs)
   by-test held rs r b is = ap (λ b. cond b (portions_from timed e (held ++ r ∷ []) rs) (held ∷ portions_from timed e (r ∷ []) rs)) is
 
-  module _ (recs : List Record) (from place : ℕ) (d : Record) (behind : from ≤ place) (within : place < length recs) where
+  module _ (recs : List Record) (from place : ℕ) (d : Record) (after : from ≤ place) (within : place < length recs) where
     abbrev pub r : Record
     r = get_or recs place d
 
@@ -112,9 +112,9 @@ module _ (timed : Bool) (e : EnabledRows) (uuid : List ℕ) (missed cpu : ℕ) w
     held-more =
         let k : ℕ = place - from in
         let front : List Record = drop from recs in
-        let inside : k < length front = omega (arith, behind, within, length-drop from recs) in
-        let whole : from + k ≡ place = omega (arith, behind) in
-        let sum : place + 1 - from ≡ k + 1 = omega (arith, behind) in
+        let inside : k < length front = omega (arith, after, within, length-drop from recs) in
+        let whole : from + k ≡ place = omega (arith, after) in
+        let sum : place + 1 - from ≡ k + 1 = omega (arith, after) in
         let last : get_or front k d ≡ get_or recs place d = get_or-drop from recs k d ∙ ap (λ n. get_or recs n d) whole in
         ap (λ n. take n front) sum ∙ take_more front k d inside ∙ ap (λ x. take k front ++ x ∷ []) last
 
@@ -144,7 +144,7 @@ module _ (timed : Bool) (e : EnabledRows) (uuid : List ℕ) (missed cpu : ℕ) w
   module _ (recs : List Record) (whole : List ℕ) where
     -- what is written and held at a place of the records: the packet that isn't ended has those from another place on, whose events are there
     pub record IsFilledTo (out body : List ℕ) (from place : ℕ) : Type 0 where
-      pub behind : from ≤ place
+      pub after : from ≤ place
       pub body_is : body ≡ events e (slice_range recs from place)
       pub fits : front_by timed + length body ≤ filled_size
       pub written : written_then out (slice_range recs from place) (drop place recs) ≡ whole
@@ -158,10 +158,10 @@ module _ (timed : Bool) (e : EnabledRows) (uuid : List ℕ) (missed cpu : ℕ) w
         let fits : takes_another timed e held r ≡ true =
         le-leb (front_by timed + (length (events e held) + length (event e r))) filled_size (omega (arith, few, ap length more, ap length at.body_is, length-append body (event e r))) in
         subst (λ f. IsFilledTo out' body' f (place + 1)) (sym stays) (subst (λ o. IsFilledTo o body' from (place + 1)) (sym same) (record {
-          behind = omega (arith, at.behind);
-          body_is = more ∙ ap (λ b. b ++ event e r) at.body_is ∙ sym (events-more e held r) ∙ ap (events e) (sym (held-more recs from place d at.behind within));
+          after = omega (arith, at.after);
+          body_is = more ∙ ap (λ b. b ++ event e r) at.body_is ∙ sym (events-more e held r) ∙ ap (events e) (sym (held-more recs from place d at.after within));
           fits = few;
-          written = goes-on recs from place d at.behind within out whole fits at.written;
+          written = goes-on recs from place d at.after within out whole fits at.written;
         }))
 
     -- or the packet is ended, and it is alone
@@ -174,10 +174,10 @@ module _ (timed : Bool) (e : EnabledRows) (uuid : List ℕ) (missed cpu : ℕ) w
         let fits_none : takes_another timed e held r ≡ false =
         lt-leb (front_by timed + (length (events e held) + length (event e r))) filled_size (omega (arith, full, ap length at.body_is, length-append body (event e r))) in
         subst (λ f. IsFilledTo out' body' f (place + 1)) (sym stays) (record {
-          behind = omega arith;
-          body_is = one ∙ sym (append-nil (event e r)) ∙ ap (events e) (sym (held-alone recs from place d at.behind within));
+          after = omega arith;
+          body_is = one ∙ sym (append-nil (event e r)) ∙ ap (events e) (sym (held-alone recs from place d at.after within));
           fits = omega (arith, ap length one, small, front-small timed);
-          written = begins-next recs from place d at.behind within out out' whole fits_none ended at.written;
+          written = begins-next recs from place d at.after within out out' whole fits_none ended at.written;
         })
 
   -- each of the packets has 1,024 bytes

@@ -108,9 +108,9 @@ module _ (f g : ℕ → List ℕ) (rs qs : List Record) where
   walk are (suc k) zero a short short' is = grind (arith, nat_tests)
   walk are (suc k) (suc l) a short short' is =
       let parts = are.step a (flat_map f (range_with_len (a + 1) k)) (flat_map g (range_with_len (a + 1) l)) is in
-      let behind : drop (4096 * (a + 1)) rs ≡ drop (4096 * (a + 1)) qs = walk are k l (a + 1) (omega (arith, short)) (omega (arith, short')) parts.1 in
+      let after : drop (4096 * (a + 1)) rs ≡ drop (4096 * (a + 1)) qs = walk are k l (a + 1) (omega (arith, short)) (omega (arith, short')) parts.1 in
       rejoin (4096 * a) 4096 (4096 * (a + 1)) rs (omega arith) ∙ ap (λ front. front ++ drop (4096 * (a + 1)) rs) parts.0
-      ∙ ap (λ back. take 4096 (drop (4096 * a) qs) ++ back) behind ∙ sym (rejoin (4096 * a) 4096 (4096 * (a + 1)) qs (omega arith))
+      ∙ ap (λ back. take 4096 (drop (4096 * a) qs) ++ back) after ∙ sym (rejoin (4096 * a) 4096 (4096 * (a + 1)) qs (omega arith))
 
 pub few : (ps : List Record) → length (take 4096 ps) ≤ 4096
 few ps = omega (arith, length-take 4096 ps)

@@ -16,9 +16,9 @@ range-piece f p n text longer whole below so_far more =
     ∙ ap (λ ps. text ++ flat_map f ps) (sym (range-next p n below)) ∙ so_far
 
 -- nothing at this place: the first is after it
-pub first-behind : {A : Type 0} (f : ℕ → Option A) (p n : ℕ) (whole : Option A) → p < n → f p ≡ None
+pub first-after : {A : Type 0} (f : ℕ → Option A) (p n : ℕ) (whole : Option A) → p < n → f p ≡ None
     → first_found f (range_with_len p (n - p)) ≡ whole → first_found f (range_with_len (p + 1) (n - (p + 1))) ≡ whole
-first-behind f p n whole below none so_far = grind (arith, nat_tests, range-next)
+first-after f p n whole below none so_far = grind (arith, nat_tests, range-next)
 
 pub none_of : {A : Type 0} (o : Option A) → is_some o ≡ false → o ≡ None
 none_of None e = refl

@@ -27,9 +27,9 @@ goes-kept lasts mid stamp file other (inl goes) differs there = grind (arith, na
 goes-kept lasts mid stamp file other (inr goes) differs there = grind (arith, nat_tests, length_push, get_or_append_left)
 
 -- a record doesn't go before the last of its file
-goes-behind : (lasts mid : List ℕ) (stamp file : ℕ) → GoesToFile lasts stamp file mid → file < length lasts → slice_index lasts file ≤ stamp
-goes-behind lasts mid stamp file (inl goes) there = goes.0.not_above
-goes-behind lasts mid stamp file (inr goes) there = absurd (omega (arith, there, goes.2))
+goes-after : (lasts mid : List ℕ) (stamp file : ℕ) → GoesToFile lasts stamp file mid → file < length lasts → slice_index lasts file ≤ stamp
+goes-after lasts mid stamp file (inl goes) there = goes.0.not_above
+goes-after lasts mid stamp file (inr goes) there = absurd (omega (arith, there, goes.2))
 
 -- files are added one at a time, up to 64
 goes-longer : (lasts mid : List ℕ) (stamp file : ℕ) → GoesToFile lasts stamp file mid → length lasts ≤ 64 → (length lasts ≤ length mid) × (length mid ≤ 64)
@@ -46,7 +46,7 @@ cons-at r rs low rise (suc i) (suc j) d below within = rise i j d (omega (arith,
 
 -- these records of a file don't fall, nor stand before its last
 record Rises (lasts : List ℕ) (file : ℕ) (qs : List Record) : Type 0 where
-  pub behind : file < length lasts → All (λ q. slice_index lasts file ≤ q.stamp) qs
+  pub after : file < length lasts → All (λ q. slice_index lasts file ≤ q.stamp) qs
   pub rising : IsNonDecreasingBy (λ q. q.stamp) qs
 
 one-more : (lasts mid : List ℕ) (r : Record) (file other : ℕ) (ps : List (ℕ × Record)) (here : Bool) → (other == file) ≡ here → GoesToFile lasts r.stamp other mid
@@ -56,10 +56,10 @@ one-more lasts mid r file other ps true is goes rises =
     let same : other ≡ file = eqb-true other file is in
     let at : GoesToFile lasts r.stamp file mid = subst (λ f. GoesToFile lasts r.stamp f mid) same goes in
     let there = goes-here lasts mid r.stamp file at in
-    let low : All (λ q. r.stamp ≤ q.stamp) qs = subst (λ s. All (λ q. s ≤ q.stamp) qs) there.1 (rises.behind there.0) in
+    let low : All (λ q. r.stamp ≤ q.stamp) qs = subst (λ s. All (λ q. s ≤ q.stamp) qs) there.1 (rises.after there.0) in
     record {
-      behind = λ inside.
-          let first : slice_index lasts file ≤ r.stamp = goes-behind lasts mid r.stamp file at inside in
+      after = λ inside.
+          let first : slice_index lasts file ≤ r.stamp = goes-after lasts mid r.stamp file at inside in
           All-cons (λ q. slice_index lasts file ≤ q.stamp) r qs first
           (All-weaker (λ q. r.stamp ≤ q.stamp) (λ q. slice_index lasts file ≤ q.stamp) (λ q above. omega (arith, first, above)) qs low);
       rising = λ i j d below within. cons-at r qs low rises.rising i j d below within;
@@ -68,9 +68,9 @@ one-more lasts mid r file other ps false is goes rises =
     let qs : List Record = map (λ p. p.1) ps in
     let differs : file ≡ other → ⊥ = λ same. eqb-false other file is (sym same) in
     record {
-      behind = λ inside.
+      after = λ inside.
           let kept = goes-kept lasts mid r.stamp other file goes differs inside in
-          subst (λ s. All (λ q. s ≤ q.stamp) qs) kept.1 (rises.behind kept.0);
+          subst (λ s. All (λ q. s ≤ q.stamp) qs) kept.1 (rises.after kept.0);
       rising = rises.rising;
     }
 
@@ -85,7 +85,7 @@ pub files-rise : (lasts : List ℕ) (rs : List Record) (files new : List ℕ) �
     → IsNonDecreasingBy (λ r. r.stamp) (of_file file files rs) × (file < length lasts → All (λ r. slice_index lasts file ≤ r.stamp) (of_file file files rs))
 files-rise lasts rs files new is file =
     let rises = rises-from lasts new rs files file is in
-    (rises.rising, rises.behind)
+    (rises.rising, rises.after)
 
 -- which files there are in the end
 record Fills (rs : List Record) (files lasts new : List ℕ) : Type 0 where

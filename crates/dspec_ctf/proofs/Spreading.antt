@@ -25,14 +25,14 @@ Spreads-append lasts mid new (r ∷ rs) qs (f ∷ fs) more (at, (first, rest)) t
 pub run-more : (lasts mid new : List ℕ) (rs : List Record) (from place file : ℕ) (r : Record) → from ≤ place → place < length rs → r ≡ get_or rs place r
     → Spreads lasts (slice_range rs from place) (replicate (place - from) file) mid → GoesToFile mid r.stamp file new
     → Spreads lasts (slice_range rs from (place + 1)) (replicate (place + 1 - from) file) new
-run-more lasts mid new rs from place file r behind within is so_far goes =
+run-more lasts mid new rs from place file r after within is so_far goes =
     let k : ℕ = place - from in
     let front : List Record = drop from rs in
-    let inside : k < length front = omega (arith, behind, within, length-drop from rs) in
-    let whole : from + k ≡ place = omega (arith, behind) in
+    let inside : k < length front = omega (arith, after, within, length-drop from rs) in
+    let whole : from + k ≡ place = omega (arith, after) in
     let here : get_or front k r ≡ r = get_or-drop from rs k r ∙ ap (λ n. get_or rs n r) whole ∙ sym is in
     let longer : take k front ++ r ∷ [] ≡ take (k + 1) front = ap (λ x. take k front ++ x ∷ []) (sym here) ∙ sym (take_more front k r inside) in
-    let sum : k + 1 ≡ place + 1 - from = omega (arith, behind) in
+    let sum : k + 1 ≡ place + 1 - from = omega (arith, after) in
     let pushed = Spreads-push lasts mid new (take k front) (replicate k file) r file so_far goes in
     let records = subst (λ xs. Spreads lasts xs (replicate k file ++ file ∷ []) new) longer pushed in
     let files = subst (λ fs. Spreads lasts (take (k + 1) front) fs new) (replicate_more k file) records in
@@ -60,8 +60,8 @@ range-joined rs from mid to below above =
     let m : ℕ = to - mid in
     let whole : from + n ≡ mid = omega (arith, below) in
     let sum : n + m ≡ to - from = omega (arith, below, above) in
-    let behind : drop mid rs ≡ drop n (drop from rs) = ap (λ k. drop k rs) (sym whole) ∙ sym (drop-drop n from rs) in
-    ap (λ xs. take n (drop from rs) ++ take m xs) behind ∙ sym (take-add n m (drop from rs)) ∙ ap (λ k. take k (drop from rs)) sum
+    let after : drop mid rs ≡ drop n (drop from rs) = ap (λ k. drop k rs) (sym whole) ∙ sym (drop-drop n from rs) in
+    ap (λ xs. take n (drop from rs) ++ take m xs) after ∙ sym (take-add n m (drop from rs)) ∙ ap (λ k. take k (drop from rs)) sum
 
 -- runs one after another have each record once
 pub record Covers (lasts : List ℕ) (rs : List Record) (from : ℕ) (runs : List Run) (to : ℕ) (new : List ℕ) : Type 0 where

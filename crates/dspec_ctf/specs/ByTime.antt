@@ -67,7 +67,7 @@ module _ (e : EnabledRows) where
   pub record IsAdded (text : List ℕ) (before after : List Record) : Type 0 where
     pub added : List Record
     pub is_text : IsText e text added
-    pub behind : after ≡ before ++ added
+    pub grown : after ≡ before ++ added
 
   -- why there are no records of the text with this number
   abbrev pub IsNoText : ℕ → List ℕ → TimeFault → Type 0

@@ -136,7 +136,7 @@ fn next_in_front(kinds: &[Kind]) -> usize
 }
 
 /// How many of them stand after a place, in front of other kinds.
-fn next_behind(kinds: &[Kind], place: usize) -> usize
+fn next_after(kinds: &[Kind], place: usize) -> usize
     ensures next { result ≡ next_in_front (drop (place + 1) kinds.now) }
     ensures few { result ≤ length kinds.now }
 {
@@ -151,7 +151,7 @@ fn words_at(event: &ProbeNames<'_>, place: usize) -> usize
     ensures words { result ≡ words_at event.now place }
     ensures few { result ≤ 9 }
 {
-    1 + next_behind(&event.kinds, place)
+    1 + next_after(&event.kinds, place)
 }
 
 /// The place of a field's name among the names.

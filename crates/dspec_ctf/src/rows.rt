@@ -146,7 +146,7 @@ impl Rows {
     fn take_all_on(&mut self, records: &[Rec], from: usize, file: usize) -> usize
         requires there { file < length self.old }
         requires within { from ≤ length records.now }
-        ensures behind { from ≤ result }
+        ensures not_before { from ≤ result }
         ensures within { result ≤ length records.now }
         ensures goes { Spreads self.old (slice_range records.now from result) (replicate (result - from) file) self.new }
         ensures whole { (r : Record) (after : List ℕ) → slice_get records.now result ≡ Some r → GoesToFile self.new r.stamp file after → ⊥ }

@@ -4,7 +4,7 @@ use Rattle.std.proofs.Common.{add-one}
 use Rattle.std.proofs.lemmas.{Bool.Decides.nat_tests, List.append-nil, List.drop_all, List.get_or-map, List.length-map}
 use Rattle.std.specs.{List.zip, Prelude.option_and_then}
 use Rattle.dspec_ctf_reading.specs.Words.{width, PartRead, then_read, read_number, find_event, read_payload, read_event, read_events, Layout, EventRead, told_field, told_event, names_of, text_at}
-use Rattle.dspec_ctf_reading.specs.Words.{behind_events}
+use Rattle.dspec_ctf_reading.specs.Words.{after_events}
 use Rattle.dspec_ctf_reading.specs.declared.told.{EventText.EventText, FieldText.FieldText}
 use Rattle.dspec_ctf_reading.proofs.{Bounds.events-on-bytes, LoopLemmas.found_before, LoopLemmas.none-before, LoopLemmas.one-after, LoopLemmas.one-more}
 
@@ -116,24 +116,24 @@ rest-end i fields whole rest all so_far =
 
 -- events
 module _ (layout : Layout) where
-  more-behind : (n : ℕ) (part : PartRead EventRead) (next : List ℕ) → option_map (λ p. p.1) part ≡ Some next → option_and_then (λ p. Some p.1) part ≡ Some next
-  more-behind n None next is = is
-  more-behind n (Some p) next is = is
+  more-after : (n : ℕ) (part : PartRead EventRead) (next : List ℕ) → option_map (λ p. p.1) part ≡ Some next → option_and_then (λ p. Some p.1) part ≡ Some next
+  more-after n None next is = is
+  more-after n (Some p) next is = is
 
-  pub behind-more : (n : ℕ) (body rest next : List ℕ) → behind_events n layout body ≡ Some rest → option_map (λ p. p.1) (read_event layout rest) ≡ Some next
-      → behind_events (suc n) layout body ≡ Some next
-  behind-more zero body rest next is read = grind (arith, nat_tests, more-behind)
-  behind-more (suc n) body rest next is read = go (read_event layout body) is (λ bytes is. behind-more n bytes rest next is read)
+  pub after-more : (n : ℕ) (body rest next : List ℕ) → after_events n layout body ≡ Some rest → option_map (λ p. p.1) (read_event layout rest) ≡ Some next
+      → after_events (suc n) layout body ≡ Some next
+  after-more zero body rest next is read = grind (arith, nat_tests, more-after)
+  after-more (suc n) body rest next is read = go (read_event layout body) is (λ bytes is. after-more n bytes rest next is read)
     where
-      go : (part : PartRead EventRead) → option_and_then (λ p. behind_events n layout p.1) part ≡ Some rest
-          → ((bytes : List ℕ) → behind_events n layout bytes ≡ Some rest → behind_events (suc n) layout bytes ≡ Some next)
-          → option_and_then (λ p. behind_events (suc n) layout p.1) part ≡ Some next
+      go : (part : PartRead EventRead) → option_and_then (λ p. after_events n layout p.1) part ≡ Some rest
+          → ((bytes : List ℕ) → after_events n layout bytes ≡ Some rest → after_events (suc n) layout bytes ≡ Some next)
+          → option_and_then (λ p. after_events (suc n) layout p.1) part ≡ Some next
       go None is more = absurd (cc)
       go (Some p) is more = more p.1 is
 
-  pub behind-one-more : (n : ℕ) (body rest next : List ℕ) → behind_events n layout body ≡ Some rest → option_map (λ p. p.1) (read_event layout rest) ≡ Some next
-      → behind_events (n + 1) layout body ≡ Some next
-  behind-one-more n body rest next is read = rw add-one (behind-more n body rest next is read)
+  pub after-one-more : (n : ℕ) (body rest next : List ℕ) → after_events n layout body ≡ Some rest → option_map (λ p. p.1) (read_event layout rest) ≡ Some next
+      → after_events (n + 1) layout body ≡ Some next
+  after-one-more n body rest next is read = rw add-one (after-more n body rest next is read)
 
   module _ {X : Type 0} (f : X → EventRead) where
     pub events-more : (found grown : List X) (x : X) (whole : Option (List EventRead)) (rest next : List ℕ) → 0 < length rest

@@ -67,13 +67,13 @@ process-back : (p : Process) (rest : List ℕ) → IsQuotable p.host.now → IsQ
 unfolding process_text IsQuotable is_quoted is_digit
 process-back p rest host name low =
     let tail : List ℕ = codes ";\n" ++ rest in
-    let behind_name : List ℕ = codes "\";\n" ++ (codes "\tvpid = " ++ (decimal p.pid ++ tail)) in
-    let behind_host : List ℕ = codes "\";\n" ++ (codes "\tprocname = \"" ++ (p.name.now ++ behind_name)) in
+    let after_name : List ℕ = codes "\";\n" ++ (codes "\tvpid = " ++ (decimal p.pid ++ tail)) in
+    let after_host : List ℕ = codes "\";\n" ++ (codes "\tprocname = \"" ++ (p.name.now ++ after_name)) in
     let third : List ℕ → Option (List ℕ) = λ more. past (codes "\";\n\tvpid = ") more (λ more. then_rest (read_decimal more) (rest_past (codes ";\n"))) in
     let second : List ℕ → Option (List ℕ) = λ more. past (codes "\";\n\tprocname = \"") more (λ more. then_rest (read_quoted more) third) in
     ap read_process (nine (codes "\thostname = \"") p.host.now (codes "\";\n") (codes "\tprocname = \"") p.name.now (codes "\";\n") (codes "\tvpid = ") (decimal p.pid) (codes ";\n") rest)
-    ∙ ap (λ part. then_rest part second) (read-run-back is_quoted p.host.now behind_host host.0 host.1 refl)
-    ∙ ap (λ part. then_rest part third) (read-run-back is_quoted p.name.now behind_name name.0 name.1 refl)
+    ∙ ap (λ part. then_rest part second) (read-run-back is_quoted p.host.now after_host host.0 host.1 refl)
+    ∙ ap (λ part. then_rest part third) (read-run-back is_quoted p.name.now after_name name.0 name.1 refl)
     ∙ ap (λ part. then_rest part (rest_past (codes ";\n"))) (decimal-back p.pid tail low refl)
 
 -- the environment, up to what tells who wrote this

@@ -37,9 +37,9 @@ module _ {X A : Type 0} (f : X → A) (end : List ℕ) (one : List ℕ → PartR
       → rest_past end rest ≡ None → one rest ≡ Some (f x, next) → grown ≡ found ++ x ∷ [] → whole ≡ found_before (map f grown) (many (n - (i + 1)) next)
   many-on n i found grown x whole rest next below is no_end is_one longer = grind (arith, nat_tests, opened, one-more, map-append)
 
-  pub many-end : (n i : ℕ) (found : List X) (whole : PartRead (List A)) (rest behind : List ℕ) → i < n → whole ≡ found_before (map f found) (many (n - i) rest)
-      → rest_past end rest ≡ Some behind → whole ≡ Some (map f found, behind)
-  many-end n i found whole rest behind below is ends = grind (arith, nat_tests, opened, append-nil)
+  pub many-end : (n i : ℕ) (found : List X) (whole : PartRead (List A)) (rest after : List ℕ) → i < n → whole ≡ found_before (map f found) (many (n - i) rest)
+      → rest_past end rest ≡ Some after → whole ≡ Some (map f found, after)
+  many-end n i found whole rest after below is ends = grind (arith, nat_tests, opened, append-nil)
 
   pub many-stop : (n i : ℕ) (found : List X) (whole : PartRead (List A)) (rest : List ℕ) → i < n → whole ≡ found_before (map f found) (many (n - i) rest)
       → rest_past end rest ≡ None → one rest ≡ None → whole ≡ None
@@ -61,9 +61,9 @@ module _ {X A : Type 0} (f : X → A) (end : List ℕ) (one : List ℕ → PartR
       → rest_past end rest ≡ None → one rest ≡ Some (map f more, next) → grown ≡ found ++ more → whole ≡ found_before (map f grown) (many (n - (i + 1)) next)
   lines-on n i found grown more whole rest next below is no_end is_one longer = grind (arith, nat_tests, begun, some-more, map-append)
 
-  pub lines-end : (n i : ℕ) (found : List X) (whole : PartRead (List A)) (rest behind : List ℕ) → i < n → whole ≡ found_before (map f found) (many (n - i) rest)
-      → rest_past end rest ≡ Some behind → whole ≡ Some (map f found, behind)
-  lines-end n i found whole rest behind below is ends = grind (arith, nat_tests, begun, append-nil)
+  pub lines-end : (n i : ℕ) (found : List X) (whole : PartRead (List A)) (rest after : List ℕ) → i < n → whole ≡ found_before (map f found) (many (n - i) rest)
+      → rest_past end rest ≡ Some after → whole ≡ Some (map f found, after)
+  lines-end n i found whole rest after below is ends = grind (arith, nat_tests, begun, append-nil)
 
   pub lines-stop : (n i : ℕ) (found : List X) (whole : PartRead (List A)) (rest : List ℕ) → i < n → whole ≡ found_before (map f found) (many (n - i) rest)
       → rest_past end rest ≡ None → one rest ≡ None → whole ≡ None

@@ -20,23 +20,23 @@ one-more n = omega arith
 pub one-before : (n : ℕ) → 1 + n ≡ suc n
 one-before n = omega arith
 
-front-behind : (ks : List Kind) (n : ℕ) → next_in_front (drop n ks) ≡ (if is_next (kind_of ks n) then 1 + next_in_front (drop (suc n) ks) else 0)
-front-behind [] zero = refl
-front-behind [] (suc n) = refl
-front-behind (k ∷ ks) zero = refl
-front-behind (k ∷ ks) (suc n) = front-behind ks n
+front-after : (ks : List Kind) (n : ℕ) → next_in_front (drop n ks) ≡ (if is_next (kind_of ks n) then 1 + next_in_front (drop (suc n) ks) else 0)
+front-after [] zero = refl
+front-after [] (suc n) = refl
+front-after (k ∷ ks) zero = refl
+front-after (k ∷ ks) (suc n) = front-after ks n
 
 pub next-front : (ks : List Kind) (n : ℕ) → next_in_front (drop n ks) ≡ (if is_next (kind_of ks n) then 1 + next_in_front (drop (n + 1) ks) else 0)
-next-front ks n = front-behind ks n ∙ ap (λ m. if is_next (kind_of ks n) then 1 + next_in_front (drop m ks) else 0) (one-more n)
+next-front ks n = front-after ks n ∙ ap (λ m. if is_next (kind_of ks n) then 1 + next_in_front (drop m ks) else 0) (one-more n)
 
-step-behind : (ks : List Kind) (n : ℕ) → next_words (take (suc n) ks) ≡ next_words (take n ks) + (if is_next (kind_of ks n) then 1 else 0)
-step-behind [] zero = refl
-step-behind [] (suc n) = refl
-step-behind (k ∷ ks) zero = omega arith
-step-behind (k ∷ ks) (suc n) = omega (arith, step-behind ks n)
+step-after : (ks : List Kind) (n : ℕ) → next_words (take (suc n) ks) ≡ next_words (take n ks) + (if is_next (kind_of ks n) then 1 else 0)
+step-after [] zero = refl
+step-after [] (suc n) = refl
+step-after (k ∷ ks) zero = omega arith
+step-after (k ∷ ks) (suc n) = omega (arith, step-after ks n)
 
 next-step : (ks : List Kind) (n : ℕ) → next_words (take (n + 1) ks) ≡ next_words (take n ks) + (if is_next (kind_of ks n) then 1 else 0)
-next-step ks n = ap (λ m. next_words (take m ks)) (sym (one-more n)) ∙ step-behind ks n
+next-step ks n = ap (λ m. next_words (take m ks)) (sym (one-more n)) ∙ step-after ks n
 
 next-most : (ks : List Kind) (n : ℕ) → next_words (take n ks) ≤ n
 next-most ks zero = omega arith
@@ -65,6 +65,6 @@ pub name-within : (ks : List Kind) (names m p : ℕ) → names + next_words ks �
     → name_place ks p < names
 name-within ks names m p all within low is =
     let none : next_words (take (p + 1) ks) ≡ next_words (take p ks) + 0 = next-step ks p ∙ ap (λ b. next_words (take p ks) + (if b then 1 else 0)) is in
-    let behind : next_words (drop (p + 1) ks) ≤ m - (p + 1) =
+    let after : next_words (drop (p + 1) ks) ≤ m - (p + 1) =
     next-few (drop (p + 1) ks) (p + 1) m (λ q at. within (p + 1 + q) (ap is_next (sym (get_or-drop (p + 1) ks q Unsigned)) ∙ at)) in
-    omega (arith, all, low, none, behind, next-most ks p, next-parts ks (p + 1))
+    omega (arith, all, low, none, after, next-most ks p, next-parts ks (p + 1))

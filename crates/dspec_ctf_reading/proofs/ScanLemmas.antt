@@ -19,11 +19,11 @@ rest_past-other [] bytes other = absurd (cc)
 rest_past-other (c ∷ text) [] other = refl
 rest_past-other (c ∷ text) (b ∷ bytes) other = grind (arith, nat_tests, rest_past-other text bytes)
 
-pub behind-told : (text bytes : List ℕ) (r : Option (Bor (List ℕ))) → MatchOption r (pointwise nat_eq (take (length text) bytes) text ≡ false)
+pub after-told : (text bytes : List ℕ) (r : Option (Bor (List ℕ))) → MatchOption r (pointwise nat_eq (take (length text) bytes) text ≡ false)
     (λ x. (pointwise nat_eq (take (length text) bytes) text ≡ true) × (x.now ≡ drop (length text) bytes) × (length x.now + length text ≡ length bytes))
     → option_map (λ rest. rest.now) r ≡ rest_past text bytes
-behind-told text bytes None told = rest_past-other text bytes told
-behind-told text bytes (Some x) told = ap Some told.1 ∙ rest_past-there text bytes told.0
+after-told text bytes None told = rest_past-other text bytes told
+after-told text bytes (Some x) told = ap Some told.1 ∙ rest_past-there text bytes told.0
 
 -- runs
 pub run-ends : (test : ℕ → Bool) (n : ℕ) (bytes : List ℕ) → n ≤ length bytes → list_all test (take n bytes) ≡ true → (n < length bytes → test (get_or bytes n 0) ≡ false)

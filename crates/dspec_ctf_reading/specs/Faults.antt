@@ -37,11 +37,11 @@ EventDue layout bytes Cut = HasKnown layout bytes × (read_event layout bytes �
 EventDue layout bytes no_memory = Unit
 
 -- the bytes after so many events
-abbrev pub behind_events : ℕ → Layout → List ℕ → Option (List ℕ)
-behind_events zero layout bytes = Some bytes
-behind_events (suc n) layout bytes = option_and_then (λ p. behind_events n layout p.1) (read_event layout bytes)
+abbrev pub after_events : ℕ → Layout → List ℕ → Option (List ℕ)
+after_events zero layout bytes = Some bytes
+after_events (suc n) layout bytes = option_and_then (λ p. after_events n layout p.1) (read_event layout bytes)
 
 -- the fault is due after so many events as it tells, at the byte that it tells
 abbrev pub EventsDue : Layout → List ℕ → EventsFault → Type 0
 EventsDue layout body told =
-    IsSomeAnd (behind_events told.before layout body) (λ rest. (told.at + length rest ≡ length body) × EventDue layout rest told.fault)
+    IsSomeAnd (after_events told.before layout body) (λ rest. (told.at + length rest ≡ length body) × EventDue layout rest told.fault)

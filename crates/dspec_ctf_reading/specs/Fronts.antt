@@ -18,14 +18,14 @@ front_of f = record {
 pub record PacketSplit : Type 0 where
   pub front : FrontRead
   pub body : List ℕ
-  pub behind : List ℕ
+  pub after : List ℕ
 
 -- of a packet whose sizes agree with the bytes, of which those after its front are given besides
-abbrev pub split_behind : List ℕ → FrontRead → List ℕ → Option PacketSplit
-split_behind bytes front rest =
+abbrev pub split_after : List ℕ → FrontRead → List ℕ → Option PacketSplit
+split_after bytes front rest =
     if sizes_agree front (length bytes - length rest) (length bytes)
-    then Some (record { front = front; body = take (front.content_size / 8 - (length bytes - length rest)) rest; behind = drop (front.packet_size / 8) bytes })
+    then Some (record { front = front; body = take (front.content_size / 8 - (length bytes - length rest)) rest; after = drop (front.packet_size / 8) bytes })
     else None
 
 abbrev pub split_packet : Bool → List ℕ → Option PacketSplit
-split_packet timed bytes = option_and_then (λ p. split_behind bytes p.0 p.1) (read_front timed bytes)
+split_packet timed bytes = option_and_then (λ p. split_after bytes p.0 p.1) (read_front timed bytes)

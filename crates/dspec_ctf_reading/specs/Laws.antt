@@ -16,7 +16,7 @@ then_others read first = option_and_then (λ p. option_map (λ others. p.0 ∷ o
 
 -- a packet that was split, with its events, and what is after it
 abbrev pub with_its_events : Layout → PacketSplit → Option (PacketRead × List ℕ)
-with_its_events layout s = option_map (λ packet. (packet, s.behind)) (with_events layout s.front s.body)
+with_its_events layout s = option_map (λ packet. (packet, s.after)) (with_events layout s.front s.body)
 
 -- an event is of this EPID, with this stamp and these values, in order
 abbrev pub IsReadAs : EventRead → ℕ → Option ℕ → List ℕ → Type 0

@@ -4,7 +4,7 @@ use Rattle.dspec_ctf_reading.specs.Faults.{EventsDue}
 use Rattle.dspec_ctf_reading.specs.Fronts.{split_packet}
 use Rattle.dspec_ctf_reading.specs.Reading.{Layout, FrontRead, read_number, read_front}
 use Rattle.dspec_ctf_reading.specs.declared.fault.PacketReadFault.{PacketReadFault}
-use Rattle.dspec_ctf_reading.specs.declared.fault.PacketReadFault.TheVariants.{Cut, Magic, Stream, ContentWithinByte, PacketWithinByte, BeforeEvents, BehindPacket, BehindFile}
+use Rattle.dspec_ctf_reading.specs.declared.fault.PacketReadFault.TheVariants.{Cut, Magic, Stream, ContentWithinByte, PacketWithinByte, BeforeEvents, AfterPacket, AfterFile}
 use Rattle.dspec_ctf_reading.specs.declared.fault.WholePacketFault.{WholePacketFault, TheVariants.Packet, TheVariants.Events}
 
 -- Of bytes that begin with no front: another magic number stands there, or another stream; or neither, and so they are cut.
@@ -19,8 +19,8 @@ abbrev pub SizesDue : FrontRead → ℕ → ℕ → PacketReadFault → Type 0
 SizesDue front read there (ContentWithinByte size) = (front.content_size ≡ size) × (size % 8 ≢ 0)
 SizesDue front read there (PacketWithinByte size) = (front.packet_size ≡ size) × (size % 8 ≢ 0)
 SizesDue front read there (BeforeEvents size) = (front.content_size ≡ size) × (size / 8 < read)
-SizesDue front read there (BehindPacket content packet) = (front.content_size ≡ content) × (front.packet_size ≡ packet) × (packet < content)
-SizesDue front read there (BehindFile size) = (front.packet_size ≡ size) × (there < size / 8)
+SizesDue front read there (AfterPacket content packet) = (front.content_size ≡ content) × (front.packet_size ≡ packet) × (packet < content)
+SizesDue front read there (AfterFile size) = (front.packet_size ≡ size) × (there < size / 8)
 SizesDue front read there _ = ⊥
 
 -- Of bytes that begin with no packet: there is no front, or its sizes don't agree.

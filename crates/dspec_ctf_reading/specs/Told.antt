@@ -52,4 +52,4 @@ Fits layout event =
 
 -- a packet in memory as it is split
 abbrev pub told_packet : SplitPacket → PacketSplit
-told_packet packet = record { front = front_of packet.front; body = packet.body.now; behind = packet.behind.now }
+told_packet packet = record { front = front_of packet.front; body = packet.body.now; after = packet.after.now }

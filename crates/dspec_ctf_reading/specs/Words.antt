@@ -1,12 +1,12 @@
 -- Serves proofs. The words of this crate for its proofs and for the crates above, in one place. Declares nothing.
 pub mod Outside
 unfoldable pub use Outside.*
-pub use Rattle.dspec_ctf_reading.specs.Faults.{behind_events}
+pub use Rattle.dspec_ctf_reading.specs.Faults.{after_events}
 pub use Rattle.dspec_ctf_reading.specs.Files.{file_bytes, FileTells, last_missed, PartTells}
 pub use Rattle.dspec_ctf_reading.specs.Folders.Checks.{IsSoundFrom, last_of, packet_as_read, RisesFrom, stamps_of, times_of}
 pub use Rattle.dspec_ctf_reading.specs.Folders.Counts.{BeginsFile, CountsPacket, CountsPackets, span_from, up_to_64}
 pub use Rattle.dspec_ctf_reading.specs.Folders.Whole.{AreWholeBefore, SplitsInto}
-pub use Rattle.dspec_ctf_reading.specs.Fronts.{front_of, PacketSplit, split_behind, split_packet, split_packet as packet_split}
+pub use Rattle.dspec_ctf_reading.specs.Fronts.{front_of, PacketSplit, split_after, split_packet, split_packet as packet_split}
 pub use Rattle.dspec_ctf_reading.specs.Laws.{FilledFilesReadBack, MetadataTells, MissedReadsBack, RunsReadBack, with_its_events}
 pub use Rattle.dspec_ctf_reading.specs.Layouts.{event_layout, event_of, event_read, field_layouts, given_for, given_name, is_timed, layout_by, layout_of, named_values, names_by, Naming, packet_read}
 pub use Rattle.dspec_ctf_reading.specs.Layouts.{stamp_field, stamp_value}

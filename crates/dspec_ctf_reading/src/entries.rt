@@ -6,7 +6,7 @@ ghost use Rattle.dspec_ctf_reading.specs.{ReadingMetadata.read_number_field, Rea
 
 use crate::fault::{Expected, ReadStop};
 use crate::kinds::field_type;
-use crate::scan::{behind, decimal, past_text, quoted, word};
+use crate::scan::{after, decimal, past_text, quoted, word};
 use crate::told::{EventText, FieldText};
 use dspec_probe::Kind;
 use dspec_record::Field;
@@ -96,7 +96,7 @@ fn field<'t>(alloc: Global, bytes: &'t [u8]) -> Result<(Vec<FieldText<'t>>, &'t 
     ensures { Gives result (λ p. (map told_field p.0.items, p.1.now)) (read_field bytes.now) }
 {
     let rest = past_text(bytes, "\t\t")?;
-    if let Some(rest) = behind(rest, TEXT_FRONT) {
+    if let Some(rest) = after(rest, TEXT_FRONT) {
         return text_field(alloc, rest);
     }
     let (one, rest) = number_field(alloc, rest)?;
@@ -112,7 +112,7 @@ fn fields<'t>(alloc: Global, bytes: &'t [u8]) -> Result<(Vec<FieldText<'t>>, &'t
     let mut found = Vec::new(alloc);
     let mut rest = bytes;
     for _ in 0..bytes.len() {
-        if let Some(end) = behind(rest, "\t};\n};\n") {
+        if let Some(end) = after(rest, "\t};\n};\n") {
             return Ok((found, end));
         }
         let (mut line, next) = field(alloc, rest)?;

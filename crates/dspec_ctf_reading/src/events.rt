@@ -83,7 +83,7 @@ fn payload<'b>(
 }
 
 /// The bytes after the numbers of the fields.
-fn behind_payload<'b>(fields: &[FieldText<'_>], bytes: &'b [u8]) -> Option<&'b [u8]>
+fn after_payload<'b>(fields: &[FieldText<'_>], bytes: &'b [u8]) -> Option<&'b [u8]>
     ensures read { option_map (λ rest. rest.now) result ≡ option_map (λ p. p.1) (read_payload (map told_field fields.now) bytes.now) }
     ensures within { IfSome result (λ rest. length rest.now ≤ length bytes.now) }
 {
@@ -125,7 +125,7 @@ pub fn read_event<'b>(
 }
 
 /// The bytes after the event with which these begin.
-fn behind_event<'b>(metadata: &Metadata<'_>, bytes: &'b [u8]) -> Result<&'b [u8], EventFault>
+fn after_event<'b>(metadata: &Metadata<'_>, bytes: &'b [u8]) -> Result<&'b [u8], EventFault>
     ensures read { IfOk result (λ rest. option_map (λ p. p.1) (event_from (told_layout metadata.now) bytes.now) ≡ Some rest.now) }
     ensures shorter { IfOk result (λ rest. length rest.now < length bytes.now) }
     ensures fault { IfErr result (λ fault. EventDue (told_layout metadata.now) bytes.now fault) }
@@ -135,7 +135,7 @@ fn behind_event<'b>(metadata: &Metadata<'_>, bytes: &'b [u8]) -> Result<&'b [u8]
     let Some((_, rest)) = stamp(metadata.clock.is_some(), rest) else {
         return Err(EventFault::Cut);
     };
-    match behind_payload(&event.fields, rest) {
+    match after_payload(&event.fields, rest) {
         Some(rest) => Ok(rest),
         None => Err(EventFault::Cut),
     }
@@ -180,7 +180,7 @@ pub fn check_events(metadata: &Metadata<'_>, body: &[u8]) -> Result<usize, Event
     let mut count = 0usize;
     let mut rest = body;
     while !rest.is_empty() {
-        match behind_event(metadata, rest) {
+        match after_event(metadata, rest) {
             Ok(next) => rest = next,
             Err(fault) => {
                 return Err(EventsFault {

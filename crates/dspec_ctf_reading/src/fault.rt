@@ -148,10 +148,10 @@ pub enum PacketReadFault {
     BeforeEvents(u64),
     /// The content ends after the packet.
     #[error("content of {content} bits ends after its packet of {packet}")]
-    BehindPacket { content: u64, packet: u64 },
+    AfterPacket { content: u64, packet: u64 },
     /// The packet ends after the bytes.
     #[error("a packet of {0} bits ends after the file")]
-    BehindFile(u64),
+    AfterFile(u64),
 }
 
 /// Why a packet can't be read whole.

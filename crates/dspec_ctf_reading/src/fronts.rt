@@ -1,7 +1,7 @@
 //! Packets split into their fronts and the bytes of their events, by the definition of `specs/Reading.antt`.
 
 ghost use Rattle.std.specs.{Option.option_map, Prelude.◌≡◌, Prelude.◌≤◌, Prelude.length};
-ghost use Rattle.dspec_ctf_reading.specs.Fronts.{front_of, split_behind, split_packet as packet_split};
+ghost use Rattle.dspec_ctf_reading.specs.Fronts.{front_of, split_after, split_packet as packet_split};
 ghost use Rattle.dspec_ctf_reading.specs.Reading.{read_counts, read_front as front_read, read_header, read_number, read_span};
 
 /// What a packet tells before its events.
@@ -29,7 +29,7 @@ pub struct SplitPacket<'b> {
     /// The bytes of its events, up to the end of its content.
     pub body: &'b [u8],
     /// The bytes after it.
-    pub behind: &'b [u8],
+    pub after: &'b [u8],
 }
 
 /// A number of four bytes, and those after it.
@@ -110,7 +110,7 @@ pub fn read_front(timed: bool, bytes: &[u8]) -> Option<(Front, &[u8])>
 /// The packet with which these bytes begin: its front, and the bytes of its events up to the end of its content. What fills it up after
 /// them is passed over. None where the bytes begin with no front, and where its sizes don't agree with each other and with the bytes.
 pub fn split_packet(timed: bool, bytes: &[u8]) -> Option<SplitPacket<'_>>
-    ensures { option_map (λ p. record { front = front_of p.front; body = p.body.now; behind = p.behind.now }) result ≡ packet_split timed bytes.now }
+    ensures { option_map (λ p. record { front = front_of p.front; body = p.body.now; after = p.after.now }) result ≡ packet_split timed bytes.now }
 {
     let (front, rest) = read_front(timed, bytes)?;
     let read = bytes.len() - rest.len();
@@ -128,6 +128,6 @@ pub fn split_packet(timed: bool, bytes: &[u8]) -> Option<SplitPacket<'_>>
     Some(SplitPacket {
         front,
         body: &rest[..content - read],
-        behind: &bytes[end..],
+        after: &bytes[end..],
     })
 }

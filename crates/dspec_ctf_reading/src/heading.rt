@@ -5,7 +5,7 @@ ghost use Rattle.dspec_ctf_reading.specs.Parts.{Gives, read_trace};
 ghost use Rattle.dspec_ctf_reading.specs.ReadingMetadata.{read_clock, read_clock_start, read_clock_uuid, read_process, rest_past, stream_lines};
 
 use crate::fault::{Expected, ReadStop};
-use crate::scan::{behind, decimal, past, past_text, quoted};
+use crate::scan::{after, decimal, past, past_text, quoted};
 use crate::told::{ClockText, ToldProcess};
 
 /// The types that each of our traces has.
@@ -46,7 +46,7 @@ pub(crate) fn trace(bytes: &[u8]) -> Result<(&str, &[u8]), ReadStop>
 pub(crate) fn process(bytes: &[u8]) -> Result<(Option<ToldProcess<'_>>, &[u8]), ReadStop>
     ensures { Gives result (λ p. p.1.now) (read_process bytes.now) }
 {
-    let Some(rest) = behind(bytes, "\thostname = \"") else {
+    let Some(rest) = after(bytes, "\thostname = \"") else {
         return Ok((None, bytes));
     };
     let (host, rest) = quoted(rest)?;
@@ -62,7 +62,7 @@ pub(crate) fn process(bytes: &[u8]) -> Result<(Option<ToldProcess<'_>>, &[u8]), 
 fn clock_uuid(bytes: &[u8]) -> Result<(Option<&str>, &[u8]), ReadStop>
     ensures { Gives result (λ p. p.1.now) (read_clock_uuid bytes.now) }
 {
-    let Some(rest) = behind(bytes, "\tuuid = \"") else {
+    let Some(rest) = after(bytes, "\tuuid = \"") else {
         return Ok((None, bytes));
     };
     let (uuid, rest) = quoted(rest)?;
@@ -74,7 +74,7 @@ fn clock_uuid(bytes: &[u8]) -> Result<(Option<&str>, &[u8]), ReadStop>
 fn clock_start(bytes: &[u8]) -> Result<(Option<(u64, u64)>, &[u8]), ReadStop>
     ensures { Gives result (λ p. p.1.now) (read_clock_start bytes.now) }
 {
-    let Some(rest) = behind(bytes, "\toffset_s = ") else {
+    let Some(rest) = after(bytes, "\toffset_s = ") else {
         return Ok((None, bytes));
     };
     let (seconds, rest) = decimal(rest)?;
@@ -88,7 +88,7 @@ fn clock_start(bytes: &[u8]) -> Result<(Option<(u64, u64)>, &[u8]), ReadStop>
 pub(crate) fn clock(bytes: &[u8]) -> Result<(Option<ClockText<'_>>, &[u8]), ReadStop>
     ensures { Gives result (λ p. (is_some p.0, p.1.now)) (read_clock bytes.now) }
 {
-    let Some(rest) = behind(bytes, "\nclock {\n\tname = stamp;\n\tfreq = ") else {
+    let Some(rest) = after(bytes, "\nclock {\n\tname = stamp;\n\tfreq = ") else {
         return Ok((None, bytes));
     };
     let (frequency, rest) = decimal(rest)?;

@@ -6,7 +6,7 @@ ghost use Rattle.dspec_ctf_reading.specs.{Parts.Gives, Parts.read_enumeration, R
 ghost use Rattle.dspec_ctf_reading.specs.{ReadingMetadata.read_type_of, ReadingMetadata.whole_types, Told.told_label};
 
 use crate::fault::{Expected, ReadStop};
-use crate::scan::{behind, decimal, past_text, quoted};
+use crate::scan::{after, decimal, past_text, quoted};
 use crate::told::Label;
 use dspec_probe::Kind;
 use dspec_record::Field;
@@ -16,16 +16,16 @@ use std::alloc::Global;
 fn unsigned(bytes: &[u8]) -> Option<(Field, &[u8])>
     ensures { option_map (λ p. (bytes_of p.0, p.1.now)) result ≡ read_type_of (take 4 whole_types) bytes.now }
 {
-    if let Some(rest) = behind(bytes, "uint8_t") {
+    if let Some(rest) = after(bytes, "uint8_t") {
         return Some((Field::One, rest));
     }
-    if let Some(rest) = behind(bytes, "uint16_t") {
+    if let Some(rest) = after(bytes, "uint16_t") {
         return Some((Field::Two, rest));
     }
-    if let Some(rest) = behind(bytes, "uint32_t") {
+    if let Some(rest) = after(bytes, "uint32_t") {
         return Some((Field::Four, rest));
     }
-    let rest = behind(bytes, "uint64_t")?;
+    let rest = after(bytes, "uint64_t")?;
     Some((Field::Eight, rest))
 }
 
@@ -33,16 +33,16 @@ fn unsigned(bytes: &[u8]) -> Option<(Field, &[u8])>
 fn signed(bytes: &[u8]) -> Option<(Field, &[u8])>
     ensures { option_map (λ p. (bytes_of p.0, p.1.now)) result ≡ read_type_of (drop 4 whole_types) bytes.now }
 {
-    if let Some(rest) = behind(bytes, "integer { size = 8; align = 8; signed = true; }") {
+    if let Some(rest) = after(bytes, "integer { size = 8; align = 8; signed = true; }") {
         return Some((Field::One, rest));
     }
-    if let Some(rest) = behind(bytes, "integer { size = 16; align = 8; signed = true; }") {
+    if let Some(rest) = after(bytes, "integer { size = 16; align = 8; signed = true; }") {
         return Some((Field::Two, rest));
     }
-    if let Some(rest) = behind(bytes, "integer { size = 32; align = 8; signed = true; }") {
+    if let Some(rest) = after(bytes, "integer { size = 32; align = 8; signed = true; }") {
         return Some((Field::Four, rest));
     }
-    let rest = behind(bytes, "integer { size = 64; align = 8; signed = true; }")?;
+    let rest = after(bytes, "integer { size = 64; align = 8; signed = true; }")?;
     Some((Field::Eight, rest))
 }
 
@@ -50,13 +50,13 @@ fn signed(bytes: &[u8]) -> Option<(Field, &[u8])>
 fn float(bytes: &[u8]) -> Option<(Field, &[u8])>
     ensures { option_map (λ p. (bytes_of p.0, p.1.now)) result ≡ read_type_of float_types bytes.now }
 {
-    if let Some(rest) = behind(
+    if let Some(rest) = after(
         bytes,
         "floating_point { exp_dig = 8; mant_dig = 24; align = 8; }",
     ) {
         return Some((Field::Four, rest));
     }
-    let rest = behind(
+    let rest = after(
         bytes,
         "floating_point { exp_dig = 11; mant_dig = 53; align = 8; }",
     )?;
@@ -112,7 +112,7 @@ fn labels<'t>(alloc: Global, bytes: &'t [u8]) -> Result<(Vec<Label<'t>>, &'t [u8
     let mut found = Vec::new(alloc);
     let mut rest = bytes;
     for _ in 0..bytes.len() {
-        if let Some(end) = behind(rest, "}") {
+        if let Some(end) = after(rest, "}") {
             return Ok((found, end));
         }
         let (one, next) = label(rest)?;
@@ -162,7 +162,7 @@ pub(crate) fn field_type<'t>(
 ) -> Result<(Numbers<'t>, &'t [u8]), ReadStop>
     ensures { Gives result (λ p. (bytes_of p.0.width, p.1.now)) (read_type bytes.now) }
 {
-    if let Some(rest) = behind(bytes, "enum : ") {
+    if let Some(rest) = after(bytes, "enum : ") {
         return enumeration(alloc, rest);
     }
     let Some((width, kind, rest)) = number(bytes) else {

@@ -57,8 +57,8 @@ pub fn worked_refusals()
     ensures content_within_a_byte { read_packet (sample_layout false) (slice_set filled_bytes 24 89) ≡ None }
     ensures packet_within_a_byte { read_packet (sample_layout false) (slice_set filled_bytes 32 105) ≡ None }
     ensures before_the_events { read_packet (sample_layout false) (sized 152 1) ≡ None }
-    ensures behind_the_packet { read_packet (sample_layout false) (slice_set sample_bytes 24 120 ++ 1 ∷ 0 ∷ 0 ∷ 0 ∷ []) ≡ None }
-    ensures behind_the_file { read_packet (sample_layout false) (sized 96 2) ≡ None }
+    ensures after_the_packet { read_packet (sample_layout false) (slice_set sample_bytes 24 120 ++ 1 ∷ 0 ∷ 0 ∷ 0 ∷ []) ≡ None }
+    ensures after_the_file { read_packet (sample_layout false) (sized 96 2) ≡ None }
     ensures event { read_packet (sample_layout false) (slice_set sample_bytes 52 4) ≡ None }
     ensures cut { read_packet (sample_layout false) (slice_set sample_bytes 24 80) ≡ None }
     ensures rest { read_file (sample_layout false) (sample_bytes ++ 193 ∷ []) ≡ None }

@@ -61,12 +61,12 @@ fn size_fault(front: &Front, read: usize, there: usize) -> PacketReadFault
         return PacketReadFault::BeforeEvents(front.content_size);
     }
     if front.packet_size < front.content_size {
-        return PacketReadFault::BehindPacket {
+        return PacketReadFault::AfterPacket {
             content: front.content_size,
             packet: front.packet_size,
         };
     }
-    PacketReadFault::BehindFile(front.packet_size)
+    PacketReadFault::AfterFile(front.packet_size)
 }
 
 /// The packet with which these bytes begin: its front, the bytes of its events, and those after it. `timed` says whether the trace has a
@@ -94,7 +94,7 @@ pub fn check_packet<'b>(
     bytes: &'b [u8],
 ) -> Result<SplitPacket<'b>, WholePacketFault>
     ensures split { IfOk result (λ packet. packet_split (told_layout metadata.now).timed bytes.now ≡ Some (told_packet packet)) }
-    ensures read { IfOk result (λ packet. option_map (λ p. p.1) (packet_from (told_layout metadata.now) bytes.now) ≡ Some packet.behind.now) }
+    ensures read { IfOk result (λ packet. option_map (λ p. p.1) (packet_from (told_layout metadata.now) bytes.now) ≡ Some packet.after.now) }
     ensures none { IfErr result (λ _. packet_from (told_layout metadata.now) bytes.now ≡ None) }
     ensures fault { IfErr result (λ fault. WholeDue (told_layout metadata.now) bytes.now fault) }
 {

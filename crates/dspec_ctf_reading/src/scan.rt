@@ -8,7 +8,7 @@ ghost use Rattle.dspec_ctf_reading.specs.ReadingMetadata.{digits_number, read_de
 use crate::fault::{Expected, ReadStop};
 
 /// What is after this text, where the bytes begin with it.
-pub(crate) fn behind<'t>(bytes: &'t [u8], text: &str) -> Option<&'t [u8]>
+pub(crate) fn after<'t>(bytes: &'t [u8], text: &str) -> Option<&'t [u8]>
     ensures { option_map (λ rest. rest.now) result ≡ rest_past text.now bytes.now }
 {
     bytes.strip_prefix(text.as_bytes())
@@ -32,7 +32,7 @@ pub(crate) fn past<'t>(
 ) -> Result<&'t [u8], ReadStop>
     ensures { Gives result (λ rest. rest.now) (rest_past text.now bytes.now) }
 {
-    match behind(bytes, text) {
+    match after(bytes, text) {
         Some(rest) => Ok(rest),
         None => Err(ReadStop::Unread {
             left: left_from(bytes, text),

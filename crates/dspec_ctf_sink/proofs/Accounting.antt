@@ -11,7 +11,7 @@ capped_below n below = omega arith
 
 -- the next packets are those of a text
 text_of : (e : EnabledRows) (uuid : List ℕ) (missed cpu told : ℕ) (text bytes : List ℕ) → AreNextOf e uuid missed cpu text told bytes → (rs : List Record) × IsText e text rs
-text_of e uuid missed cpu told text bytes (inl (first, behind)) = (behind.are_packets.read, behind.are_packets.is_text)
+text_of e uuid missed cpu told text bytes (inl (first, grown)) = (grown.are_packets.read, grown.are_packets.is_text)
 text_of e uuid missed cpu told text bytes (inr (later, are)) = (are.read, are.is_text)
 
 -- what is counted of a CPU whose count was changed, and of the others

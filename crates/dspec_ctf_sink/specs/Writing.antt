@@ -47,7 +47,7 @@ TellsFirst told missed = (told ≡ 0) × (missed ≢ 0)
 
 module _ (e : EnabledRows) (uuid : List ℕ) (missed cpu : ℕ) (text : List ℕ) where
   -- the bytes are the packet of no records, which tells of none missed, and the packets of this text after it
-  pub record AreBehindSilent (bytes : List ℕ) : Type 0 where
+  pub record AreAfterSilent (bytes : List ℕ) : Type 0 where
     pub packets : List ℕ
     pub are_packets : AreFilledOf e uuid missed cpu text packets
     pub bytes_are : bytes ≡ filled_packets false e uuid 0 cpu [] ++ packets
@@ -55,7 +55,7 @@ module _ (e : EnabledRows) (uuid : List ℕ) (missed cpu : ℕ) (text : List ℕ
   -- The bytes are the next packets of a file that told of so many missed events: those of this text. Tools tell by how much more a packet tells than
   -- the one before it, so where missed events are told first, a packet that tells of none stands in front.
   abbrev pub AreNextOf : ℕ → List ℕ → Type 0
-  AreNextOf told bytes = (TellsFirst told missed × AreBehindSilent bytes) ⊎ ((TellsFirst told missed → ⊥) × AreFilledOf e uuid missed cpu text bytes)
+  AreNextOf told bytes = (TellsFirst told missed × AreAfterSilent bytes) ⊎ ((TellsFirst told missed → ⊥) × AreFilledOf e uuid missed cpu text bytes)
 
 -- the bytes are the next packets of the batch's CPU; and so many events it missed then
 pub record IsNextPacket (e : EnabledRows) (old : Tracing) (b : Batch) (missed : ℕ) (bytes : List ℕ) : Type 0 where

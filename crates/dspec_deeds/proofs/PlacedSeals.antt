@@ -7,12 +7,12 @@ use Rattle.dspec_deeds.proofs.{BareReads.seal_is, BareReads.halted_bare, BareRea
 use Rattle.dspec_deeds.proofs.{BareSound.sound_with_seals, OwnParts.fitting_of_own, SoloOwed.IsOwnRelease, SoloOwed.owed_is_own, TestLemmas.either_way, TestLemmas.off, TestLemmas.number_is_itself}
 
 -- after a deed of its own a CPU is late where the session was stopped
-no_later_behind : (c : ℕ) (d : Deed) (h : List Deed) → author d h ≡ Cpu c → IsNoLater c (d ∷ h)
-no_later_behind c d h is = grind arith
+no_later_after : (c : ℕ) (d : Deed) (h : List Deed) → author d h ≡ Cpu c → IsNoLater c (d ∷ h)
+no_later_after c d h is = grind arith
 
 -- where a Seal may stand it makes nobody later
 no_later : (c : ℕ) (h : List Deed) → MayStand c h → IsNoLater c h
-no_later c h h1 = grind (arith, nat_tests, halted_bare, no_later_behind)
+no_later c h h1 = grind (arith, nat_tests, halted_bare, no_later_after)
 
 -- without the Seals, too, the CPU's deed is the latest
 bare_last : (c : ℕ) (h : List Deed) → ArePlaced h → MayStand c h → MayStand c (bare h)

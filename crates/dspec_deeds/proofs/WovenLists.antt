@@ -1,6 +1,6 @@
 -- A list woven of the CPUs' own lists.
 use Rattle.std.proofs.Common.{◌≡◌, ℕ, ◌<◌, true, false, ◌==◌, if◌then◌else◌, List, [], ◌∷◌, ◌++◌, Option, refl, sym, ap, ◌∙◌, subst, ⊎_elim, inr, arith, true≢false}
-use Rattle.dspec_deeds.specs.Words.{Shape, owed, author, part, same_actor, HasAuthors, IsSound, is_seal, is_of, IsOwn, ReadsAlike, bare, IsPlaced, ArePlaced, lead, behind, taken_off, seals_behind}
+use Rattle.dspec_deeds.specs.Words.{Shape, owed, author, part, same_actor, HasAuthors, IsSound, is_seal, is_of, IsOwn, ReadsAlike, bare, IsPlaced, ArePlaced, lead, remainder, taken_off, seals_after}
 use Rattle.dspec_deeds.specs.Words.{woven, HaveLists, ShowsAlike, IsWoven}
 use Rattle.dspec_deeds.specs.declared.{calls.Actor.Actor, calls.Actor.TheVariants.Cpu, calls.Actor.TheVariants.Consumer, config.Config.Config, deed.Deed.Deed, deed.Deed.TheVariants.Seal}
 use Rattle.dspec_deeds.proofs.{BareReads.author_bare, BareReads.shows_bare, OwnReads.reads, PlacedSeals.placed_legal, SealsPut.AreSeals, SealsPut.placed_on, SealsPut.bare_on, SealsPut.own_on}
@@ -39,10 +39,10 @@ module _ (shape : ℕ → Option Shape) (k : Config) where
 
   -- a CPU's own list is parted at its latest deed that is no Seal
   record IsParted (c : ℕ) (d : Deed) (r q : List Deed) : Type 0 where
-    pub whole : q ≡ lead q ++ d ∷ behind q
+    pub whole : q ≡ lead q ++ d ∷ remainder q
     pub leading : AreSeals c (lead q)
-    pub rest : bare (behind q) ≡ r
-    pub own : IsOwn shape k c (behind q)
+    pub rest : bare (remainder q) ≡ r
+    pub own : IsOwn shape k c (remainder q)
 
   parted : (c : ℕ) (d : Deed) (r q : List Deed) → IsOwn shape k c q → bare q ≡ d ∷ r → IsParted c d r q
   parted c d r [] own e = absurd (cc e)
@@ -50,7 +50,7 @@ module _ (shape : ℕ → Option Shape) (k : Config) where
       (λ (t : is_seal x ≡ true).
       let rec = parted c d r q own.0 (subst (λ b. (if b then bare q else x ∷ bare q) ≡ d ∷ r) t e) in
       record {
-        whole = ap (λ y. x ∷ y) rec.whole ∙ ap (λ b. (if b then x ∷ lead q else []) ++ d ∷ (if b then behind q else q)) (sym t);
+        whole = ap (λ y. x ∷ y) rec.whole ∙ ap (λ b. (if b then x ∷ lead q else []) ++ d ∷ (if b then remainder q else q)) (sym t);
         leading = rw t (rec.leading, seal_of c x t own.1);
         rest = rw t rec.rest;
         own = rw t rec.own;
@@ -60,7 +60,7 @@ module _ (shape : ℕ → Option Shape) (k : Config) where
       let same : x ≡ d = cc in
       let tail : bare q ≡ r = cc in
       record {
-        whole = ap (λ y. y ∷ q) same ∙ ap (λ b. (if b then x ∷ lead q else []) ++ d ∷ (if b then behind q else q)) (sym f);
+        whole = ap (λ y. y ∷ q) same ∙ ap (λ b. (if b then x ∷ lead q else []) ++ d ∷ (if b then remainder q else q)) (sym f);
         leading = rw f tt;
         rest = rw f tail;
         own = rw f own.0;
@@ -108,7 +108,7 @@ module _ (shape : ℕ → Option Shape) (k : Config) where
     }
 
     -- a deed of a CPU, and its Seals after it
-    cpu_laid : (p : ℕ → List Deed) (c : ℕ) → author d h ≡ Cpu c → IsParted c d (part (Cpu c) h) (p c) → q c ≡ behind (p c) → ((a : ℕ) → (a == c) ≡ false → q a ≡ p a)
+    cpu_laid : (p : ℕ → List Deed) (c : ℕ) → author d h ≡ Cpu c → IsParted c d (part (Cpu c) h) (p c) → q c ≡ remainder (p c) → ((a : ℕ) → (a == c) ≡ false → q a ≡ p a)
         → IsLaid p (d ∷ h) (lead (p c) ++ d ∷ w)
     cpu_laid p c is part_at at_c elsewhere =
         let lt : c < k.cpus = whose.1 c is in
@@ -140,7 +140,7 @@ module _ (shape : ℕ → Option Shape) (k : Config) where
   -- one deed more, whosever it is
   lay : (d : Deed) (h : List Deed) (p : ℕ → List Deed) (v : Actor) → author d h ≡ v → HasAuthors k (d ∷ h) → HaveLists shape k p (d ∷ h)
       → ((q : ℕ → List Deed) → HaveLists shape k q h → IsLaid q h (woven k.cpus q h))
-      → IsLaid p (d ∷ h) (seals_behind v p ++ d ∷ woven k.cpus (taken_off v p) h)
+      → IsLaid p (d ∷ h) (seals_after v p ++ d ∷ woven k.cpus (taken_off v p) h)
   lay d h p Consumer is whose lists below =
       let q : ℕ → List Deed = λ a. p a in
       let under : HaveLists shape k q h = record { own = lists.own; parts = λ c lt. lists.parts c lt ∙ others_part d h Consumer is (Cpu c) refl } in
@@ -154,8 +154,8 @@ module _ (shape : ℕ → Option Shape) (k : Config) where
       let q : ℕ → List Deed = taken_off (Cpu c) p in
       let here : bare (p c) ≡ d ∷ part (Cpu c) h = lists.parts c lt ∙ mine_part d h (Cpu c) is (Cpu c) (cpu_is_itself c) in
       let part_at = parted c d (part (Cpu c) h) (p c) (lists.own c lt) here in
-      let at_c : q c ≡ behind (p c) = ap (λ b. if b then behind (p c) else p c) (number_is_itself c) in
-      let elsewhere : (a : ℕ) → (a == c) ≡ false → q a ≡ p a = λ a f. ap (λ b. if b then behind (p a) else p a) f in
+      let at_c : q c ≡ remainder (p c) = ap (λ b. if b then remainder (p c) else p c) (number_is_itself c) in
+      let elsewhere : (a : ℕ) → (a == c) ≡ false → q a ≡ p a = λ a f. ap (λ b. if b then remainder (p a) else p a) f in
       let under : HaveLists shape k q h = record {
         own = λ a a_lt. ⊎_elim
             (λ (t : (a == c) ≡ true). subst (λ x. IsOwn shape k x (q x)) (sym (same_number a c t)) (subst (IsOwn shape k c) (sym at_c) part_at.own))

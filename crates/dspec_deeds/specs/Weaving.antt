@@ -41,19 +41,19 @@ abbrev pub lead : List Deed → List Deed
 lead [] = []
 lead (d ∷ q) = if is_seal d then d ∷ lead q else []
 
-abbrev pub behind : List Deed → List Deed
-behind [] = []
-behind (d ∷ q) = if is_seal d then behind q else q
+abbrev pub remainder : List Deed → List Deed
+remainder [] = []
+remainder (d ∷ q) = if is_seal d then remainder q else q
 
 -- the lists of the CPUs, once one deed of a CPU has been taken off, with the Seals that came later
 abbrev pub taken_off : Actor → (ℕ → List Deed) → ℕ → List Deed
-taken_off (Cpu c) p a = if a == c then behind (p a) else p a
+taken_off (Cpu c) p a = if a == c then remainder (p a) else p a
 taken_off Consumer p a = p a
 
 -- the Seals that come directly after an actor's latest deed
-abbrev pub seals_behind : Actor → (ℕ → List Deed) → List Deed
-seals_behind (Cpu c) p = lead (p c)
-seals_behind Consumer p = []
+abbrev pub seals_after : Actor → (ℕ → List Deed) → List Deed
+seals_after (Cpu c) p = lead (p c)
+seals_after Consumer p = []
 
 -- the lists of the first CPUs, one after another
 abbrev pub front : ℕ → (ℕ → List Deed) → List Deed
@@ -63,7 +63,7 @@ front (suc n) p = p n ++ front n p
 -- each Seal directly after the deed that stands before it in its CPU's list, at the front where there is none
 abbrev pub woven : ℕ → (ℕ → List Deed) → List Deed → List Deed
 woven n p [] = front n p
-woven n p (d ∷ h) = seals_behind (author d h) p ++ d ∷ woven n (taken_off (author d h) p) h
+woven n p (d ∷ h) = seals_after (author d h) p ++ d ∷ woven n (taken_off (author d h) p) h
 
 -- what is read off the deeds of all is the same in both lists
 pub record ShowsAlike (g h : List Deed) : Type 0 where

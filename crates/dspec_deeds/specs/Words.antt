@@ -26,5 +26,5 @@ pub use Rattle.dspec_deeds.specs.Reports.{accepts_now, adds_now, busy_fails, Cou
 pub use Rattle.dspec_deeds.specs.Reports.{specdrops_now, speculative, Spoken, stops_now, total, traces_dropped_now, voids_now}
 pub use Rattle.dspec_deeds.specs.Rules.{drops_of, goes_on, IsGivenBelow, late_calls, settlements, SettlesOnce}
 pub use Rattle.dspec_deeds.specs.Settling.{commit_fate, committed_fate, discard_fate, fits_held, settle_fate, settled_fate}
-pub use Rattle.dspec_deeds.specs.Weaving.{ArePlaced, bare, behind, front, HaveLists, IsLastOf, IsPlaced, IsWoven, lead, MayStand, seals_behind, ShowsAlike, taken_off, woven}
+pub use Rattle.dspec_deeds.specs.Weaving.{ArePlaced, bare, front, HaveLists, IsLastOf, IsPlaced, IsWoven, lead, MayStand, remainder, seals_after, ShowsAlike, taken_off, woven}
 pub use Rattle.dspec_deeds.specs.WordSteps.{ack_after, touches, word_after, word_made}

@@ -20,9 +20,9 @@ between rs from mid to low high within =
     ∙ take-append-add first (drop mid rs) (to - mid)
 
 -- the same after others
-pub behind : (front rs : List Record) (from mid to : ℕ) → from ≤ mid → mid ≤ to → to ≤ length rs
+pub slice_after : (front rs : List Record) (from mid to : ℕ) → from ≤ mid → mid ≤ to → to ≤ length rs
     → front ++ slice_range rs from to ≡ (front ++ slice_range rs from mid) ++ slice_range rs mid to
-behind front rs from mid to low high within =
+slice_after front rs from mid to low high within =
     ap (λ qs. front ++ qs) (between rs from mid to low high within) ∙ sym (append_assoc front (slice_range rs from mid) (slice_range rs mid to))
 
 -- the records of a text are accepted

@@ -8,11 +8,11 @@ abbrev pub FilesJoin : Type 0
 FilesJoin = (layout : Layout) (a b : List ℕ) (ps qs : List PacketRead) → read_file layout a ≡ Some ps → read_file layout b ≡ Some qs → read_file layout (a ++ b) ≡ Some (ps ++ qs)
 
 -- packets that tell more than nothing tell it after others
-loss_behind : (ps qs : List PacketRead) (n : ℕ) → loss_of qs ≡ n → 0 < n → loss_of (ps ++ qs) ≡ n
-loss_behind [] qs n tells some = tells
-loss_behind (p ∷ []) [] n tells some = absurd (omega (arith, tells, some))
-loss_behind (p ∷ []) (q ∷ qs) n tells some = tells
-loss_behind (p ∷ o ∷ ps) qs n tells some = loss_behind (o ∷ ps) qs n tells some
+loss_after : (ps qs : List PacketRead) (n : ℕ) → loss_of qs ≡ n → 0 < n → loss_of (ps ++ qs) ≡ n
+loss_after [] qs n tells some = tells
+loss_after (p ∷ []) [] n tells some = absurd (omega (arith, tells, some))
+loss_after (p ∷ []) (q ∷ qs) n tells some = tells
+loss_after (p ∷ o ∷ ps) qs n tells some = loss_after (o ∷ ps) qs n tells some
 
 -- packets that tell what was told already change nothing
 loss_kept : (n : ℕ) (ps qs : List PacketRead) → loss_of ps ≡ n → All (λ (p : PacketRead). p.discarded ≡ n) qs → loss_of (ps ++ qs) ≡ n
@@ -46,6 +46,6 @@ module _ (join : FilesJoin) (layout : Layout) (uuid : List ℕ) (cpu : ℕ) wher
     packets = whole.packets ++ more.packets;
     read = join layout a b whole.packets more.packets whole.read more.read;
     has = flat_map-append (λ (p : PacketRead). p.events) whole.packets more.packets ∙ ap (λ xs. xs ++ events_of more.packets) whole.has ∙ ap (λ ys. es ++ ys) more.has ∙ append-nil es;
-    misses = loss_behind whole.packets more.packets m more.misses some;
+    misses = loss_after whole.packets more.packets m more.misses some;
     whose = All-append Whose whole.packets more.packets whole.whose more.whose;
   }

@@ -89,9 +89,9 @@ module _ (files_law : FilesHaveAll) (runs_law : RunsHaveAll) where
       All-cons (λ (run : Run). run.file < 64) run runs first.0 (runs_few mid rs run.end runs to new first.1 more)
 
   -- the last stamps after runs, also where they aren't written
-  pub lasts_behind : (lasts : List ℕ) (rs : List Record) (from to : ℕ) (runs : List Run) (new : List ℕ) → length lasts ≤ 64 → slice_index lasts 0 < 2 ^ 64 → All (λ r. r.stamp < 2 ^ 64) rs
+  pub lasts_follow : (lasts : List ℕ) (rs : List Record) (from to : ℕ) (runs : List Run) (new : List ℕ) → length lasts ≤ 64 → slice_index lasts 0 < 2 ^ 64 → All (λ r. r.stamp < 2 ^ 64) rs
       → AreRuns lasts rs from runs to new → (length new ≤ 64) × (slice_index new 0 < 2 ^ 64)
-  lasts_behind lasts rs from to runs new few first low are =
+  lasts_follow lasts rs from to runs new few first low are =
       let covers = runs_law lasts new rs from to runs are in (
         (files_law lasts (slice_range rs from to) (run_files from runs) new few covers.1).3,
         spread_low lasts (slice_range rs from to) (run_files from runs) new (range_low rs from to low) first covers.1,
@@ -99,4 +99,4 @@ module _ (files_law : FilesHaveAll) (runs_law : RunsHaveAll) where
 
   pub lasts_after : (lasts : List ℕ) (rs : List Record) (place : ℕ) (run : Run) (new : List ℕ) → length lasts ≤ 64 → slice_index lasts 0 < 2 ^ 64 → All (λ r. r.stamp < 2 ^ 64) rs
       → IsFileRun lasts rs place run new → (length new ≤ 64) × (slice_index new 0 < 2 ^ 64)
-  lasts_after lasts rs place run new few first low is = lasts_behind lasts rs place run.end (run ∷ []) new few first low (new, (is, (refl, refl)))
+  lasts_after lasts rs place run new few first low is = lasts_follow lasts rs place run.end (run ∷ []) new few first low (new, (is, (refl, refl)))

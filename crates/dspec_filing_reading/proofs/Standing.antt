@@ -4,7 +4,7 @@ use Rattle.std.proofs.lemmas.Bool.Decides.{nat_tests}
 use Rattle.std.specs.Prelude.{slice_index, slice_range}
 use Rattle.dspec_filing_reading.specs.Words.{Record, EnabledRows, Accepts, IsFileRun, IsFoundRun, missed_packets, run_packet, CpuFiling, as_written, AreFrontsKept, Packets, all_written, Names, Run}
 use Rattle.dspec_record.specs.declared.header.Header.TheVariants as header
-use Rattle.dspec_filing_reading.proofs.{FilesLaws.FilesLaws, Fronts.behind, Packets.Reads, Packets.reads_missed, Packets.reads_runs, Packets.reads_same, Sharing.lasts_after, Sharing.stamps_low}
+use Rattle.dspec_filing_reading.proofs.{FilesLaws.FilesLaws, Fronts.slice_after, Packets.Reads, Packets.reads_missed, Packets.reads_runs, Packets.reads_same, Sharing.lasts_after, Sharing.stamps_low}
 
 -- a run that was found, by the last stamps that there were before, and whose packet wasn't handed out yet
 pub record WasFound (records : List Record) (place : ℕ) (after : List ℕ) (run : Run) : Type 0 where
@@ -39,7 +39,7 @@ module _ (uuid : List ℕ) (e : EnabledRows) (names : Names) (hertz cpu : ℕ) w
 
   -- what was handed out last counts as written
   pub settles : (f : CpuFiling) (w : Packets) (texts : List (List ℕ)) (count : ℕ) → Stand f w texts count → Stand (as_written f) (all_written w) texts count
-  settles f w texts count s = grind (arith, nat_tests, behind, reads_same)
+  settles f w texts count s = grind (arith, nat_tests, slice_after, reads_same)
 
 module _ (laws : FilesLaws) (uuid : List ℕ) (e : EnabledRows) (names : Names) (hertz cpu : ℕ) (low : cpu < 2 ^ 32) (long : length uuid ≡ 16) (stamped : e.header ≡ header.Two) where
   -- the next run is there: it was found before, or is now
@@ -84,7 +84,7 @@ module _ (laws : FilesLaws) (uuid : List ℕ) (e : EnabledRows) (names : Names) 
         all = subst (λ bs. Reads uuid e names hertz cpu (ws ++ (run.file, bs) ∷ []) (s.kept ++ slice_range f.records f.from run.end) f.told) same
             (subst (λ qs. Reads uuid e names hertz cpu qs (s.kept ++ slice_range f.records f.from run.end) f.told) (append_assoc ws [] ((run.file, bytes) ∷ []))
             (subst (λ rs. Reads uuid e names hertz cpu ((ws ++ []) ++ (run.file, bytes) ∷ []) rs f.told)
-            (sym (behind s.kept f.records f.from f.place run.end s.from_place (omega (arith, was.is_run.some)) was.is_run.within)) grown));
+            (sym (slice_after s.kept f.records f.from f.place run.end s.from_place (omega (arith, was.is_run.some)) was.is_run.within)) grown));
         told = s.told;
         told_before = s.told_before;
       }

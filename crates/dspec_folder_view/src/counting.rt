@@ -1,8 +1,9 @@
 //! `specview folder`: what trace folders have, in tables.
 
 use crate::fault::FolderViewFault;
-use crate::merging::{put_moment, tell_wrong};
+use crate::merging::put_moment;
 use crate::opening::OpenedTrace;
+use crate::progress::ReadingProgress;
 use dspec_command::print_text;
 use dspec_ctf_reading::folder::{Base, CpuCounts, count_file, nanoseconds};
 use dspec_ctf_reading::{ClockText, Metadata};
@@ -20,12 +21,14 @@ fn count_files<'a>(
     rt: &HostRuntime,
     opened: &OpenedTrace<'a>,
     metadata: &Metadata<'_>,
+    progress: &mut ReadingProgress,
 ) -> Result<Counted, FolderViewFault<'a>> {
     let mut counted = Counted {
         cpus: Vec::new(rt.alloc()),
         sound: true,
     };
     for file in &opened.files {
+        progress.next(rt);
         let bytes = opened.bytes(rt, *file)?;
         if counted.cpus.last().is_none_or(|cpu| cpu.cpu != file.cpu) {
             let none = CpuCounts::new(rt.alloc(), file.cpu, metadata.events.len())?;
@@ -39,7 +42,7 @@ fn count_files<'a>(
             Err(fault) if fault.is_memory() => return Err(FolderViewFault::from(AllocError)),
             Err(fault) => {
                 counted.sound = false;
-                tell_wrong(rt, opened.path, *file, &fault);
+                progress.tell_wrong(rt, opened.path, *file, &fault);
             }
         }
     }
@@ -193,7 +196,10 @@ fn table_of(
 fn count_folder<'a>(rt: &HostRuntime, path: &'a str) -> Result<bool, FolderViewFault<'a>> {
     let opened = OpenedTrace::of(rt, path)?;
     let metadata = opened.metadata(rt.alloc())?;
-    let counted = count_files(rt, &opened, &metadata)?;
+    let mut progress = ReadingProgress::new(rt, opened.files.len());
+    let counted = count_files(rt, &opened, &metadata, &mut progress);
+    progress.clear(rt);
+    let counted = counted?;
     let table = table_of(rt.alloc(), path, &metadata, counted.cpus.as_slice())?;
     print_text(rt, table.as_str())?;
     Ok(counted.sound)

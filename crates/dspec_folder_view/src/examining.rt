@@ -5,6 +5,7 @@ use crate::folder_fault::file_fault;
 use crate::judging::{Mend, mend_of, place_of, wrong_with};
 use crate::naming::FileName;
 use crate::opening::{OpenedTrace, path_of};
+use crate::progress::ReadingProgress;
 use dspec_command::{CommandFault, output_fault};
 use dspec_ctf_reading::Metadata;
 use dspec_ctf_reading::folder::Whose;
@@ -42,7 +43,7 @@ fn cut_off(rt: &HostRuntime, path: &str, was: u64, at: u64) -> io::Result<bool> 
     Ok(true)
 }
 
-/// Cuts off what stands behind the last whole packet of a file, and tells it.
+/// Cuts off what comes after the last whole packet of a file, and tells it.
 fn mend<'a>(
     rt: &HostRuntime,
     folder: &'a str,
@@ -57,7 +58,7 @@ fn mend<'a>(
             tally.mended = tally.mended.saturating_add(1);
             let gone = was.saturating_sub(at);
             tell(println!(rt;
-                "{path}: {gone} bytes from byte {at} on cut off, behind the last whole packet"
+                "{path}: {gone} bytes from byte {at} on cut off, after the last whole packet"
             ))?;
         }
         Ok(false) => {
@@ -84,8 +85,10 @@ impl<'o, 'a> Examined<'o, 'a> {
         rt: &HostRuntime,
         file: FileName,
         tally: &mut FolderTally,
+        progress: &mut ReadingProgress,
     ) -> Result<(), FolderViewFault<'a>> {
         let folder = self.opened.path;
+        progress.next(rt);
         let bytes = self.opened.bytes(rt, file)?;
         let whose = Whose {
             uuid: self.uuid,
@@ -93,7 +96,9 @@ impl<'o, 'a> Examined<'o, 'a> {
         };
         tally.files = tally.files.saturating_add(1);
         let fault = if self.mends {
-            match mend_of(rt.alloc(), &self.metadata, &whose, bytes.as_slice())? {
+            let mend_due = mend_of(rt.alloc(), &self.metadata, &whose, bytes.as_slice())?;
+            progress.clear(rt);
+            match mend_due {
                 Mend::Nothing => return Ok(()),
                 Mend::CutAt(at) => return mend(rt, folder, file, bytes.len(), at, tally),
                 Mend::Leave(fault) => fault,
@@ -104,6 +109,7 @@ impl<'o, 'a> Examined<'o, 'a> {
                 Some(fault) => fault,
             }
         };
+        progress.clear(rt);
         tally.wrong = tally.wrong.saturating_add(1);
         Ok(tell(println!(rt; "{folder}/{file}: {fault}"))?)
     }
@@ -122,13 +128,27 @@ impl<'o, 'a> Examined<'o, 'a> {
         Ok(())
     }
 
-    /// Examines all files.
+    /// Examines its files.
+    fn examine_files(
+        &self,
+        rt: &HostRuntime,
+        tally: &mut FolderTally,
+        progress: &mut ReadingProgress,
+    ) -> Result<(), FolderViewFault<'a>> {
+        for file in &self.opened.files {
+            self.examine(rt, *file, tally, progress)?;
+        }
+        Ok(())
+    }
+
+    /// Examines all that it has.
     fn examine_all(&self, rt: &HostRuntime) -> Result<FolderTally, FolderViewFault<'a>> {
         let mut tally = FolderTally::default();
         self.tell_others(rt, &mut tally)?;
-        for file in &self.opened.files {
-            self.examine(rt, *file, &mut tally)?;
-        }
+        let mut progress = ReadingProgress::new(rt, self.opened.files.len());
+        let examined = self.examine_files(rt, &mut tally, &mut progress);
+        progress.clear(rt);
+        examined?;
         Ok(tally)
     }
 }
@@ -231,8 +251,8 @@ pub fn examine_folders<'a>(
             Ok(tally) => sound = sound && tally.wrong == 0,
             Err(FolderViewFault::Folder(fault)) if fault.status() == 1 => {
                 sound = false;
-                let behind = if mends { ": can't be repaired" } else { "" };
-                tell(println!(rt; "{fault}{behind}"))?;
+                let after = if mends { ": can't be repaired" } else { "" };
+                tell(println!(rt; "{fault}{after}"))?;
             }
             Err(fault) => return Err(fault),
         }

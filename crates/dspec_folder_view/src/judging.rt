@@ -55,7 +55,7 @@ fn mend_wrong(
     }
 }
 
-/// What is to be done with a file, so that it is sound: it is left alone where it is already, and where cutting off what stands behind
+/// What is to be done with a file, so that it is sound: it is left alone where it is already, and where cutting off what comes after
 /// its last whole packet isn't enough.
 pub(crate) fn mend_of(
     alloc: Global,

@@ -9,6 +9,7 @@
 //! | `judging.rt`, `examining.rt` | `wrong_with`, `mend_of`: what is wrong with a file, and where it is cut (`specs/Examined`); the files of folders, one by one |
 //! | `counting.rt` | the tables of what folders have |
 //! | `merging.rt` | what files tell, in order of time |
+//! | `progress.rt` | what is told while files are read |
 //! | `proofs/` | Uuids (a value that none of all places has) |
 #![tactic(auto)]
 
@@ -20,11 +21,14 @@ mod judging;
 mod merging;
 mod naming;
 mod opening;
+mod progress;
 
 pub use counting::count_folders;
 pub use examining::examine_folders;
 pub use fault::FolderViewFault;
 pub use folder_fault::TraceFolderFault;
-pub use merging::{Merged, OpenedTraces, Source, merge_all, metadata_of_all, open_all, put_moment};
+pub use merging::{
+    Merged, OpenedTraces, Source, merge_all, merge_live, metadata_of_all, open_all, put_moment,
+};
 pub use naming::FileName;
 pub use opening::OpenedTrace;

@@ -7,8 +7,9 @@ use crate::fault::FolderViewFault;
 use crate::folder_fault::TraceFolderFault;
 use crate::naming::FileName;
 use crate::opening::OpenedTrace;
+use crate::progress::ReadingProgress;
 use dspec_ctf_reading::Metadata;
-use dspec_ctf_reading::folder::{Base, FileFault, Mark, Moment, base_of, marks_of, sort_by_time};
+use dspec_ctf_reading::folder::{Base, Mark, Moment, base_of, marks_of, sort_by_time};
 use std::alloc::{AllocError, Global};
 
 /// A file that was read.
@@ -66,11 +67,6 @@ pub fn metadata_of_all<'o, 'a>(
     Ok(metadatas)
 }
 
-/// Tells on the error output what is wrong with a file. A line that can't be written changes nothing.
-pub(crate) fn tell_wrong(rt: &HostRuntime, folder: &str, file: FileName, fault: &FileFault) {
-    let _ = eprintln!(rt; "specview: {folder}/{file}: {fault}");
-}
-
 /// Adds a time: a day and its time, or seconds from the clock's beginning on.
 pub fn put_moment(out: &mut String, base: Base, time: u128) -> Result<(), AllocError> {
     if base == Base::Clock {
@@ -109,30 +105,54 @@ fn common_base<'a>(
     }
 }
 
+/// A trace, and the place of its folder.
+#[derive(Clone, Copy)]
+struct PlacedTrace<'s, 'o, 'a> {
+    opened: &'s OpenedTrace<'a>,
+    metadata: &'s Metadata<'o>,
+    folder: usize,
+}
+
+/// How many files these folders have.
+fn files_of(opened: &[OpenedTrace<'_>]) -> usize {
+    let mut files = 0usize;
+    for folder in opened {
+        files = files.saturating_add(folder.files.len());
+    }
+    files
+}
+
 impl Merged {
     /// Adds what a file tells.
     fn add<'a>(
         &mut self,
         rt: &HostRuntime,
-        opened: &OpenedTrace<'a>,
-        metadata: &Metadata<'_>,
-        folder: usize,
+        of: PlacedTrace<'_, '_, 'a>,
         file: FileName,
+        progress: &mut ReadingProgress,
     ) -> Result<(), FolderViewFault<'a>> {
-        let bytes = opened.bytes(rt, file)?;
+        progress.next(rt);
+        let bytes = of.opened.bytes(rt, file)?;
         let place = self.sources.len();
         self.sources.push(Source {
-            folder,
+            folder: of.folder,
             cpu: file.cpu,
         })?;
         let base = self.base.unwrap_or(Base::Clock);
         let marks = &mut self.marks;
-        match marks_of(rt.alloc(), metadata, base, place, bytes.as_slice(), marks)? {
+        match marks_of(
+            rt.alloc(),
+            of.metadata,
+            base,
+            place,
+            bytes.as_slice(),
+            marks,
+        )? {
             None => Ok(()),
             Some(fault) if fault.is_memory() => Err(FolderViewFault::from(AllocError)),
             Some(fault) => {
                 self.sound = false;
-                tell_wrong(rt, opened.path, file, &fault);
+                progress.tell_wrong(rt, of.opened.path, file, &fault);
                 Ok(())
             }
         }
@@ -142,21 +162,40 @@ impl Merged {
     fn add_folder<'a>(
         &mut self,
         rt: &HostRuntime,
-        opened: &OpenedTrace<'a>,
-        metadata: &Metadata<'_>,
-        folder: usize,
+        of: PlacedTrace<'_, '_, 'a>,
+        progress: &mut ReadingProgress,
     ) -> Result<(), FolderViewFault<'a>> {
-        for file in &opened.files {
-            self.add(rt, opened, metadata, folder, *file)?;
+        for file in &of.opened.files {
+            self.add(rt, of, *file, progress)?;
+        }
+        Ok(())
+    }
+
+    /// Adds what the files of all these folders tell.
+    fn add_folders<'a>(
+        &mut self,
+        rt: &HostRuntime,
+        traces: &OpenedTraces<'_, '_, 'a>,
+        progress: &mut ReadingProgress,
+    ) -> Result<(), FolderViewFault<'a>> {
+        let folders = traces.opened.iter().zip(traces.metadatas);
+        for (folder, (opened, metadata)) in folders.enumerate() {
+            let of = PlacedTrace {
+                opened,
+                metadata,
+                folder,
+            };
+            self.add_folder(rt, of, progress)?;
         }
         Ok(())
     }
 }
 
-/// What the files of these folders tell, in order of time: all of it in memory.
-pub fn merge_all<'a>(
+/// What the files of these folders tell, in order of time, while this is told of the reading.
+fn merge<'a>(
     rt: &HostRuntime,
     traces: &OpenedTraces<'_, '_, 'a>,
+    mut progress: ReadingProgress,
 ) -> Result<Merged, FolderViewFault<'a>>
     ensures { IfOk result (λ merged. IsInOrder merged.marks.items) }
 {
@@ -166,9 +205,33 @@ pub fn merge_all<'a>(
         base: common_base(rt.alloc(), traces.metadatas)?,
         sound: true,
     };
-    for (folder, (opened, metadata)) in traces.opened.iter().zip(traces.metadatas).enumerate() {
-        merged.add_folder(rt, opened, metadata, folder)?;
-    }
+    let added = merged.add_folders(rt, traces, &mut progress);
+    progress.clear(rt);
+    added?;
     sort_by_time(&mut merged.marks)?;
     Ok(merged)
+}
+
+/// What the files of these folders tell, in order of time: all of it in memory. A file that is wrong is told.
+pub fn merge_all<'a>(
+    rt: &HostRuntime,
+    traces: &OpenedTraces<'_, '_, 'a>,
+) -> Result<Merged, FolderViewFault<'a>>
+    ensures { IfOk result (λ merged. IsInOrder merged.marks.items) }
+{
+    merge(
+        rt,
+        traces,
+        ReadingProgress::new(rt, files_of(traces.opened)),
+    )
+}
+
+/// The same of folders that are written meanwhile: a file that is wrong is read up to there, and isn't told.
+pub fn merge_live<'a>(
+    rt: &HostRuntime,
+    traces: &OpenedTraces<'_, '_, 'a>,
+) -> Result<Merged, FolderViewFault<'a>>
+    ensures { IfOk result (λ merged. IsInOrder merged.marks.items) }
+{
+    merge(rt, traces, ReadingProgress::quiet())
 }

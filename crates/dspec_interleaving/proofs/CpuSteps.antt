@@ -40,14 +40,14 @@ module _ {shape : ℕ → Option Shape} {k : Config} {c : ℕ} {h : List Deed} {
       → StepStands shape k c h (missed k c (measured shape k c h) me s (word_at s h))
   missed_stands s slot at steps why =
       let busy = is_decided (word_at s h).code in
-      let behind = scan_missed k c s busy h at in
+      let after = scan_missed k c s busy h at in
       either_stands (s == k.nspec)
-      (λ e. ends_by play (Miss c s busy) _ play.rests (at, slot.0, why, busy_is k h s play.legal.0) tt refl tt refl (behind ∙ ap (λ (b : Bool). if b then 0 else s + 1) e))
+      (λ e. ends_by play (Miss c s busy) _ play.rests (at, slot.0, why, busy_is k h s play.legal.0) tt refl tt refl (after ∙ ap (λ (b : Bool). if b then 0 else s + 1) e))
       (λ e.
       let apart = numbers_differ s k.nspec e in
       let most = slot.1 in
       goes_by play (Miss c s busy) (cpu.ScanLoad (s + 1)) play.rests (at, slot.0, why, busy_is k h s play.legal.0) tt refl tt refl
-      ((omega arith, omega arith), behind ∙ ap (λ (b : Bool). if b then 0 else s + 1) e, omega arith))
+      ((omega arith, omega arith), after ∙ ap (λ (b : Bool). if b then 0 else s + 1) e, omega arith))
 
   scan_begins : scan k c h ≡ 0 → me.steps ≡ 0 → StepStands shape k c h (begun k c (measured shape k c h) me cpu_op.Speculation)
   scan_begins idle first = begins_stand play _ _ _ _ idle (λ t. ends_by play (Scan c false) _ play.rests (idle, sym (ap not t)) tt refl tt refl (scan_begun k c false h))

@@ -13,7 +13,7 @@ use Rattle.dspec_interleaving.specs.declared.flight.CallPlace.TheVariants as cpu
 use Rattle.dspec_deeds.proofs.{Going.AllBy, TestLemmas.number_is_itself}
 use Rattle.dspec_interleaving.proofs.{Coherence.idle_at, Coherence.start_coherent, ConsumerSteps.consumer_keeps, CpuSteps.cpu_step_stands, FlightsStay.OwnsClean, FlightsStay.CleanReads}
 use Rattle.dspec_interleaving.proofs.{FlightsStay.consumer_unworn, FlightsStay.flights_stay, FlightsStay.worn_stays, FlightsStay.consumer_step_reads, OwnTelling.OwnsCall, OwnTelling.Tells}
-use Rattle.dspec_interleaving.proofs.{OwnTelling.worn_behind, OwnTelling.ReadsOff, OwnTelling.others_own, PlaysCarry.behind_cpu_step, PlaysCarry.behind_consumer_step, PlaysCarry.PlayInvariant}
+use Rattle.dspec_interleaving.proofs.{OwnTelling.worn_after, OwnTelling.ReadsOff, OwnTelling.others_own, PlaysCarry.after_cpu_step, PlaysCarry.after_consumer_step, PlaysCarry.PlayInvariant}
 use Rattle.dspec_interleaving.proofs.{PlaysCarry.play_carries, PlaysEnd.IsCoherentPlay, PlaysEnd.coherence_carried, PlaysEnd.coherence_kept, WornCounts.HasEntered, WornCounts.calls_stay}
 use Rattle.dspec_interleaving.proofs.{WornCounts.entered_beside, WornCounts.entered_now, WornCounts.note_beside, WornCounts.note_right, WornCounts.same_test, WornCpuSteps.ahead}
 use Rattle.dspec_interleaving.proofs.{WornCpuSteps.cpu_step_reads, WornCpuSteps.cpu_step_wears}
@@ -51,7 +51,7 @@ one_worn n w most false e = e ∙ ap (λ x. min x most) (let same : w ≡ w + 0 
 
 -- the count after a call of the CPU that is noted
 worn_noted : (c : ℕ) (o : Op) (ds : List Deed) (st : PlayState) (r : Option Answer) (ns : List Noted) (n : ℕ) → n ≡ worn_count (map ended ns) c
-    → worn_behind n r ≡ worn_count (map ended (with_note (actor.Cpu c) o ds st r ns)) c
+    → worn_after n r ≡ worn_count (map ended (with_note (actor.Cpu c) o ds st r ns)) c
 worn_noted c o ds st None ns n e = e
 worn_noted c o ds st (Some a) ns n e =
     subst (λ (b : Bool). (if is_worn_answer a then min (n + 1) (2 ^ 64 - 1) else n) ≡ min (worn_answers c (map ended ns) + (if b && is_worn_answer a then 1 else 0))
@@ -120,7 +120,7 @@ module _ (shape : ℕ → Option Shape) (k : Config) where
     cleaned = (refl, subst (λ (x : Config). is_about x o ≡ true) (sym was.play.config) about);
   }
 
-  cpu_steps : (c : ℕ) (p : Playing) (f : CallPlace) → IsRead shape k p → c < k.cpus → (progress_of p.state.progresses c).flight ≡ Some f → IsRead shape k (behind_cpu_step shape c p f)
+  cpu_steps : (c : ℕ) (p : Playing) (f : CallPlace) → IsRead shape k p → c < k.cpus → (progress_of p.state.progresses c).flight ≡ Some f → IsRead shape k (after_cpu_step shape c p f)
   cpu_steps c p f was lt is =
       let st : PlayState = p.state in
       let ok = was.play.coherent in
@@ -151,7 +151,7 @@ module _ (shape : ℕ → Option Shape) (k : Config) where
         cleaned = was.cleaned;
       }
 
-  consumer_steps : (p : Playing) (f : ConsumerFlight) → IsRead shape k p → p.state.side.flight ≡ Some f → IsRead shape k (behind_consumer_step shape p f)
+  consumer_steps : (p : Playing) (f : ConsumerFlight) → IsRead shape k p → p.state.side.flight ≡ Some f → IsRead shape k (after_consumer_step shape p f)
   consumer_steps p f was is =
       let st : PlayState = p.state in
       let ok = was.play.coherent in

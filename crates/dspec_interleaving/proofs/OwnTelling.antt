@@ -35,15 +35,15 @@ Tells None x = Unit {0}
 Tells (Some a) x = a ≡ x
 
 -- the count of a CPU's worn calls after a step
-abbrev pub worn_behind : ℕ → Option Answer → ℕ
-worn_behind n None = n
-worn_behind n (Some a) = if is_worn_answer a then min (n + 1) (2 ^ 64 - 1) else n
+abbrev pub worn_after : ℕ → Option Answer → ℕ
+worn_after n None = n
+worn_after n (Some a) = if is_worn_answer a then min (n + 1) (2 ^ 64 - 1) else n
 
 -- what a step makes of a call that had entered those deeds
 pub record ReadsOff (c : ℕ) (h : List Deed) (me : CpuProgress) (o : CpuOp) (own : List Deed) (m : CpuStep) : Type 0 where
   pub holds : OwnsCall c (m.deeds ++ h) m.progress.flight (m.deeds ++ own)
   pub reads : Tells m.answer (answer_of_cpu o (m.deeds ++ own))
-  pub wears : m.progress.worn ≡ worn_behind me.worn m.answer
+  pub wears : m.progress.worn ≡ worn_after me.worn m.answer
 
 -- another's deeds leave what the CPU's call has missed
 missed_stays : (c : ℕ) (w : Actor) → same_actor (Cpu c) w ≡ false → (ds h : List Deed) → AllBy w ds h → missed_busy c (ds ++ h) ≡ missed_busy c h

@@ -15,8 +15,8 @@ use Rattle.dspec_interleaving.proofs.Tests.{is_nothing, passes}
 
 module _ (shape : ℕ → Option Shape) where
   -- a play after a step of a CPU's call in flight
-  abbrev pub behind_cpu_step : ℕ → Playing → CallPlace → Playing
-  behind_cpu_step c p f =
+  abbrev pub after_cpu_step : ℕ → Playing → CallPlace → Playing
+  after_cpu_step c p f =
       let m = cpu_step shape p.state.config c p.state.deeds (progress_of p.state.progresses c) f in
       record p {
         state = (moved_to p.state c m).state;
@@ -25,8 +25,8 @@ module _ (shape : ℕ → Option Shape) where
       }
 
   -- a play after a step of the consumer's call in flight
-  abbrev pub behind_consumer_step : Playing → ConsumerFlight → Playing
-  behind_consumer_step p f =
+  abbrev pub after_consumer_step : Playing → ConsumerFlight → Playing
+  after_consumer_step p f =
       let m = consumer_step p.state.config p.state.deeds p.state.side p.state.progresses f in
       record p {
         state = (cleaned_to p.state m).state;
@@ -35,7 +35,7 @@ module _ (shape : ℕ → Option Shape) where
       }
 
   -- a step of a CPU's call in flight
-  pub cpu_stepped_is : (c : ℕ) (p : Playing) (f : CallPlace) → (progress_of p.state.progresses c).flight ≡ Some f → stepped shape (actor.Cpu c) p ≡ behind_cpu_step c p f
+  pub cpu_stepped_is : (c : ℕ) (p : Playing) (f : CallPlace) → (progress_of p.state.progresses c).flight ≡ Some f → stepped shape (actor.Cpu c) p ≡ after_cpu_step c p f
   cpu_stepped_is c p f is =
       ap (λ (x : Option CallPlace). cpu_stepped shape c p x) is
       ∙ ap (λ (x : Option CallPlace).
@@ -47,7 +47,7 @@ module _ (shape : ℕ → Option Shape) where
       }) is
 
   -- a step of the consumer's call in flight
-  pub consumer_stepped_is : (p : Playing) (f : ConsumerFlight) → p.state.side.flight ≡ Some f → stepped shape actor.Consumer p ≡ behind_consumer_step p f
+  pub consumer_stepped_is : (p : Playing) (f : ConsumerFlight) → p.state.side.flight ≡ Some f → stepped shape actor.Consumer p ≡ after_consumer_step p f
   consumer_stepped_is p f is = rw is refl
 
   -- a step of an actor with no call in flight
@@ -58,8 +58,8 @@ module _ (shape : ℕ → Option Shape) where
   -- what each step keeps
   pub record IsCarried (k : Config) (P : Playing → Type 0) : Type 0 where
     pub config : (p : Playing) → P p → p.state.config ≡ k
-    pub cpu_steps : (c : ℕ) (p : Playing) (f : CallPlace) → P p → c < k.cpus → (progress_of p.state.progresses c).flight ≡ Some f → P (behind_cpu_step c p f)
-    pub consumer_steps : (p : Playing) (f : ConsumerFlight) → P p → p.state.side.flight ≡ Some f → P (behind_consumer_step p f)
+    pub cpu_steps : (c : ℕ) (p : Playing) (f : CallPlace) → P p → c < k.cpus → (progress_of p.state.progresses c).flight ≡ Some f → P (after_cpu_step c p f)
+    pub consumer_steps : (p : Playing) (f : ConsumerFlight) → P p → p.state.side.flight ≡ Some f → P (after_consumer_step p f)
 
   -- what each begin and each step keeps
   pub record PlayInvariant (k : Config) (P : Playing → Type 0) : Type 0 where

@@ -4,8 +4,8 @@ use Rattle.std.proofs.Common.{◌≡◌, ◌≢◌, ◌≤◌, ◌<◌, ◌+◌,
 use Rattle.std.proofs.lemmas.Bool.Decides.{nat_tests}
 use Rattle.std.specs.Prelude.{nat_lt, slice_set}
 use Rattle.dspec_interleaving.specs.Words.{Shape, Config, ConsumerOp, CpuOp, Deed, Halt, halted, scan, seals, PlayState, IsCoherent, StandsProgress, SpareCounts, PushesNext, ProgressStands}
-use Rattle.dspec_interleaving.specs.Words.{progress_of, consumer_begun, takes_at, gives_at, stops, took, begin_cpu, begin_consumer, on_to_end, whole_cpu, is_out, behind_cpu, behind_consumer}
-use Rattle.dspec_interleaving.specs.Words.{cpu_call, consumer_call, IsApart, op_bound, consumer_bound, is_worn, fits_principal, one}
+use Rattle.dspec_interleaving.specs.Words.{progress_of, consumer_begun, takes_at, gives_at, stops, took, begin_cpu, begin_consumer, on_to_end, whole_cpu, is_out, after_cpu, after_consumer, cpu_call}
+use Rattle.dspec_interleaving.specs.Words.{consumer_call, IsApart, op_bound, consumer_bound, is_worn, fits_principal, one}
 use Rattle.dspec_interleaving.specs.declared.flight.{CallPlace.CallPlace, ConsumerProgress.ConsumerProgress, CpuProgress.CpuProgress, Spare.Spare}
 use Rattle.dspec_deeds.specs.declared.calls.Actor.TheVariants as actor
 use Rattle.dspec_deeds.specs.declared.calls.Answer.TheVariants as answer
@@ -62,7 +62,7 @@ module _ (shape : ℕ → Option Shape) (st : PlayState) (side : ConsumerProgres
 module _ (shape : ℕ → Option Shape) (st : PlayState) (ok : IsCoherent shape st) where
   -- a whole call of a CPU
   pub cpu_whole : (c : ℕ) (o : CpuOp) (n : ℕ) → c < st.config.cpus → (progress_of st.progresses c).flight ≡ None → op_bound st.config o ≤ n
-      → on_to_end shape n (actor.Cpu c) (begin_cpu c o st) None ≡ record { state = behind_cpu c (cpu_call shape c o st) st; answer = Some (cpu_call shape c o st).answer }
+      → on_to_end shape n (actor.Cpu c) (begin_cpu c o st) None ≡ record { state = after_cpu c (cpu_call shape c o st) st; answer = Some (cpu_call shape c o st).answer }
   cpu_whole c o n lt none le =
       let me : CpuProgress = progress_of st.progresses c in
       let stands : ProgressStands st.config c st.deeds me = ok.stands c lt in
@@ -74,7 +74,7 @@ module _ (shape : ℕ → Option Shape) (st : PlayState) (ok : IsCoherent shape 
       let l = runs_whole shape st.config c st.deeds rest (set_up st.config ok.ranges).1 me stands.counts (none_sealed me.spare me.flight none stands.pushes) o in
       same_end shape l.steps n (actor.Cpu c) (begin_cpu c o st) _ _ _ (call_alone shape c st there o l.steps _ l.is)
       (cpu_ends_as shape n c o [] st (bare st) record { state = refl; told = refl } ok lt none le).answers
-      ∙ ap (λ (x : CpuProgress). record { state = behind_cpu c (whole_cpu shape st.config c x st.deeds o) st; answer = Some (whole_cpu shape st.config c x st.deeds o).answer }) is_idle
+      ∙ ap (λ (x : CpuProgress). record { state = after_cpu c (whole_cpu shape st.config c x st.deeds o) st; answer = Some (whole_cpu shape st.config c x st.deeds o).answer }) is_idle
 
   -- the steps of a call of the consumer
   abbrev begun_side : ConsumerOp → ConsumerProgress
@@ -103,7 +103,7 @@ module _ (shape : ℕ → Option Shape) (st : PlayState) (ok : IsCoherent shape 
 
   -- a whole call of the consumer
   pub consumer_whole : (o : ConsumerOp) (n : ℕ) → IsApart o st → consumer_bound st.config o ≤ n
-      → on_to_end shape n actor.Consumer (begin_consumer o st) None ≡ record { state = behind_consumer (consumer_call shape o st) st; answer = Some (consumer_call shape o st).answer }
+      → on_to_end shape n actor.Consumer (begin_consumer o st) None ≡ record { state = after_consumer (consumer_call shape o st) st; answer = Some (consumer_call shape o st).answer }
   consumer_whole o n apart le =
       let l = clears o apart in
       same_end shape (suc l.steps) n actor.Consumer (begin_consumer o st) _ _ _ l.is

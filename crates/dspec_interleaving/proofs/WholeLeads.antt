@@ -4,7 +4,7 @@ use Rattle.std.proofs.Common.{◌≡◌, ℕ, ◌<◌, List, [], ◌∷◌, ◌+
 use Rattle.std.proofs.lemmas.{Bool.Decides.nat_tests, List.get_or-set_same}
 use Rattle.std.specs.Prelude.{slice_set}
 use Rattle.dspec_interleaving.specs.Words.{Shape, Config, Answer, CpuOp, Deed, CpuStep, cpu_step, PlayState, progress_of, idle_progress, Stepped, begin_cpu, moved_to, step_cpu, on_to_end, WholeCpu}
-use Rattle.dspec_interleaving.specs.Words.{behind_cpu, Speculation, halted, in_range, opened, verdict, is_undecided, is_open, IsSound, is_worn, call_goes_on, ends, wears, begun, enters, wears_out}
+use Rattle.dspec_interleaving.specs.Words.{after_cpu, Speculation, halted, in_range, opened, verdict, is_undecided, is_open, IsSound, is_worn, call_goes_on, ends, wears, begun, enters, wears_out}
 use Rattle.dspec_interleaving.specs.Words.{measured}
 use Rattle.dspec_interleaving.specs.declared.flight.{CallPlace.CallPlace, CpuProgress.CpuProgress}
 use Rattle.dspec_deeds.specs.declared.calls.Actor.TheVariants as actor
@@ -69,7 +69,7 @@ module _ (shape : ℕ → Option Shape) (c : ℕ) (st : PlayState) (there : c < 
 
   -- a call that begins and runs alone does what its steps do of the CPU's side and the list
   pub call_alone : (o : CpuOp) (n : ℕ) (w : WholeCpu) → runs shape st.config c n (record (progress_of st.progresses c) { flight = Some (cpu.Begun o); steps = 0 }) st.deeds None ≡ whole w
-      → on_to_end shape n (actor.Cpu c) (begin_cpu c o st) None ≡ record { state = behind_cpu c w st; answer = Some w.answer }
+      → on_to_end shape n (actor.Cpu c) (begin_cpu c o st) None ≡ record { state = after_cpu c w st; answer = Some w.answer }
   call_alone o n w e = alone n (record (progress_of st.progresses c) { flight = Some (cpu.Begun o); steps = 0 }) st.deeds None ∙ ap lone e
 
 -- a CPU's side at the beginning of a call, and after one

@@ -5,7 +5,7 @@ use Rattle.std.proofs.lemmas.List.{get_or-set_same}
 use Rattle.std.specs.Prelude.{nat_lt, slice_set}
 use Rattle.dspec_interleaving.specs.Words.{Shape, Speculation, issue, solo, start_fault, seals, IsSound, IsLegal, PlayState, IsCoherent, StandsProgress, progress_of, is_idle, idle_progress}
 use Rattle.dspec_interleaving.specs.Words.{answer_of, IsLast, ReleasesThen, Stepped, at_start, begin_cpu, begin_consumer, step, step_cpu, step_consumer, on_to_end, WholeConsumer, is_out, Call}
-use Rattle.dspec_interleaving.specs.Words.{of_cpu, of_consumer, behind_call, behind_all, cpu_call, consumer_call, behind_cpu, behind_consumer, IsApart, IsCall, AreCalls, IsReleased, op_bound}
+use Rattle.dspec_interleaving.specs.Words.{of_cpu, of_consumer, once_called, after_all, cpu_call, consumer_call, after_cpu, after_consumer, IsApart, IsCall, AreCalls, IsReleased, op_bound}
 use Rattle.dspec_interleaving.specs.Words.{consumer_bound, Config, Actor, Answer, ConsumerOp, CpuOp, DecideFate, Deed, Commit, Discard, Release}
 use Rattle.dspec_interleaving.specs.declared.flight.{CallPlace.CallPlace, ConsumerFlight.ConsumerFlight, CpuProgress.CpuProgress}
 use Rattle.dspec_deeds.specs.declared.calls.Actor.TheVariants as actor
@@ -93,7 +93,7 @@ module _ (shape : ℕ → Option Shape) (st : PlayState) (rest : IsResting shape
   set_idle c x none = put st.config.cpus (λ b (y : CpuProgress). y.flight ≡ None) st.progresses c x rest.coherent.count (λ b less other. rest.idle b less) (λ less. none)
 
   -- after a whole call of a CPU
-  cpu_rests : (c : ℕ) (o : CpuOp) → c < st.config.cpus → IsResting shape (behind_cpu c (cpu_call shape c o st) st) × Grows st.deeds (cpu_call shape c o st).list
+  cpu_rests : (c : ℕ) (o : CpuOp) → c < st.config.cpus → IsResting shape (after_cpu c (cpu_call shape c o st) st) × Grows st.deeds (cpu_call shape c o st).list
   cpu_rests c o lt =
       let ok = rest.coherent in
       let bound : op_bound st.config o ≤ op_bound st.config o = omega arith in
@@ -102,18 +102,18 @@ module _ (shape : ℕ → Option Shape) (st : PlayState) (rest : IsResting shape
       let begun : IsCoherent shape (begin_cpu c o st) = begin_cpu_coherent shape st c o ok lt (rest.idle c lt) in
       let is = ap (λ (x : Stepped). x.state) (cpu_whole shape st ok c o (op_bound st.config o) lt (rest.idle c lt) bound) in
       let ends = cpu_ends_as shape (op_bound st.config o) c o [] st (bare st) record { state = refl; told = refl } ok lt (rest.idle c lt) bound in
-      let own : (progress_of (behind_cpu c (cpu_call shape c o st) st).progresses c).flight ≡ None =
-      is_nothing (progress_of (behind_cpu c (cpu_call shape c o st) st).progresses c).flight (subst (λ (x : PlayState). is_idle (actor.Cpu c) x ≡ true) (sym ends.at.state ∙ is) ends.idle) in
+      let own : (progress_of (after_cpu c (cpu_call shape c o st) st).progresses c).flight ≡ None =
+      is_nothing (progress_of (after_cpu c (cpu_call shape c o st) st).progresses c).flight (subst (λ (x : PlayState). is_idle (actor.Cpu c) x ≡ true) (sym ends.at.state ∙ is) ends.idle) in
       let left : (cpu_call shape c o st).progress.flight
       ≡ None = ap (λ (x : CpuProgress). x.flight) (sym (get_or-set_same st.progresses c (cpu_call shape c o st).progress idle_progress there)) ∙ own in
-      let releases : Releases c (behind_cpu c (cpu_call shape c o st) st) =
+      let releases : Releases c (after_cpu c (cpu_call shape c o st) st) =
       subst (Releases c) is (to_end_keeps shape (Releases c) (actor.Cpu c) (step_releases shape c) (op_bound st.config o) (begin_cpu c o st) None begun lt (λ id some. inl (rest.alone id some))) in (
         record {
           coherent = subst (IsCoherent shape) is (on_to_end_coherent shape (op_bound st.config o) (actor.Cpu c) (begin_cpu c o st) None begun lt);
           idle = set_idle c (cpu_call shape c o st).progress left;
           side = rest.side;
           alone = λ id some. ⊎_elim (λ (r : IsReleased id (cpu_call shape c o st).list). r)
-              (λ (r : (f : DecideFate) × ((progress_of (behind_cpu c (cpu_call shape c o st) st).progresses c).flight ≡ Some (cpu.CommitRelease id f))). absurd (some_not (sym own ∙ r.1)))
+              (λ (r : (f : DecideFate) × ((progress_of (after_cpu c (cpu_call shape c o st) st).progresses c).flight ≡ Some (cpu.CommitRelease id f))). absurd (some_not (sym own ∙ r.1)))
               (releases id some);
         },
         subst (λ (x : PlayState). Grows st.deeds x.deeds) is (to_end_grows shape (op_bound st.config o) (actor.Cpu c) (begin_cpu c o st) None begun lt),
@@ -140,7 +140,7 @@ module _ (shape : ℕ → Option Shape) (st : PlayState) (rest : IsResting shape
   apart o there = tt
 
   -- after a whole call of the consumer
-  consumer_rests : (o : ConsumerOp) → IsCall st.config (of_consumer o) → IsResting shape (behind_consumer (consumer_call shape o st) st) × Grows st.deeds (consumer_call shape o st).list
+  consumer_rests : (o : ConsumerOp) → IsCall st.config (of_consumer o) → IsResting shape (after_consumer (consumer_call shape o st) st) × Grows st.deeds (consumer_call shape o st).list
   consumer_rests o there =
       let ok = rest.coherent in
       let bound : consumer_bound st.config o ≤ consumer_bound st.config o = omega arith in
@@ -160,36 +160,36 @@ module _ (shape : ℕ → Option Shape) (st : PlayState) (rest : IsResting shape
       )
 
   -- whole calls go from rest to rest, and the list goes on
-  pub behind_rests : (x : Call) → IsCall st.config x → IsResting shape (behind_call shape x st)
-  behind_rests (of_cpu c o) there = (cpu_rests c o there).0
-  behind_rests (of_consumer o) there = (consumer_rests o there).0
+  pub after_rests : (x : Call) → IsCall st.config x → IsResting shape (once_called shape x st)
+  after_rests (of_cpu c o) there = (cpu_rests c o there).0
+  after_rests (of_consumer o) there = (consumer_rests o there).0
 
-  pub behind_grows : (x : Call) → IsCall st.config x → Grows st.deeds (behind_call shape x st).deeds
-  behind_grows (of_cpu c o) there = (cpu_rests c o there).1
-  behind_grows (of_consumer o) there = (consumer_rests o there).1
+  pub after_grows : (x : Call) → IsCall st.config x → Grows st.deeds (once_called shape x st).deeds
+  after_grows (of_cpu c o) there = (cpu_rests c o there).1
+  after_grows (of_consumer o) there = (consumer_rests o there).1
 
 -- before the first turn
 pub start_rests : (shape : ℕ → Option Shape) (k : Config) → start_fault k ≡ None → IsResting shape (at_start k)
 start_rests shape k fine = record { coherent = start_coherent shape k fine; idle = λ c lt. ap (λ (x : CpuProgress). x.flight) (idle_at k.cpus c); side = refl; alone = λ id some. absurd (some refl) }
 
-pub behind_config : (shape : ℕ → Option Shape) (x : Call) (st : PlayState) → (behind_call shape x st).config ≡ st.config
-behind_config shape (of_cpu c o) st = refl
-behind_config shape (of_consumer o) st = refl
+pub after_config : (shape : ℕ → Option Shape) (x : Call) (st : PlayState) → (once_called shape x st).config ≡ st.config
+after_config shape (of_cpu c o) st = refl
+after_config shape (of_consumer o) st = refl
 
-pub still_calls : (shape : ℕ → Option Shape) (x : Call) (xs : List Call) (st : PlayState) → AreCalls st.config xs → AreCalls (behind_call shape x st).config xs
-still_calls shape x xs st all = subst (λ k. AreCalls k xs) (sym (behind_config shape x st)) all
+pub still_calls : (shape : ℕ → Option Shape) (x : Call) (xs : List Call) (st : PlayState) → AreCalls st.config xs → AreCalls (once_called shape x st).config xs
+still_calls shape x xs st all = subst (λ k. AreCalls k xs) (sym (after_config shape x st)) all
 
 -- after a list of whole calls
-pub rest_all : (shape : ℕ → Option Shape) (xs : List Call) (st : PlayState) → AreCalls st.config xs → IsResting shape st → IsResting shape (behind_all shape xs st)
+pub rest_all : (shape : ℕ → Option Shape) (xs : List Call) (st : PlayState) → AreCalls st.config xs → IsResting shape st → IsResting shape (after_all shape xs st)
 rest_all shape [] st all r = r
-rest_all shape (x ∷ xs) st all r = rest_all shape xs (behind_call shape x st) (still_calls shape x xs st all.1) (behind_rests shape st r x all.0)
+rest_all shape (x ∷ xs) st all r = rest_all shape xs (once_called shape x st) (still_calls shape x xs st all.1) (after_rests shape st r x all.0)
 
-pub config_all : (shape : ℕ → Option Shape) (xs : List Call) (st : PlayState) → (behind_all shape xs st).config ≡ st.config
+pub config_all : (shape : ℕ → Option Shape) (xs : List Call) (st : PlayState) → (after_all shape xs st).config ≡ st.config
 config_all shape [] st = refl
-config_all shape (x ∷ xs) st = config_all shape xs (behind_call shape x st) ∙ behind_config shape x st
+config_all shape (x ∷ xs) st = config_all shape xs (once_called shape x st) ∙ after_config shape x st
 
 -- the list after whole calls is legal
-pub whole_legal : (shape : ℕ → Option Shape) (k : Config) → start_fault k ≡ None → (xs : List Call) → AreCalls k xs → IsLegal shape k (behind_all shape xs (at_start k)).deeds
+pub whole_legal : (shape : ℕ → Option Shape) (k : Config) → start_fault k ≡ None → (xs : List Call) → AreCalls k xs → IsLegal shape k (after_all shape xs (at_start k)).deeds
 whole_legal shape k fine xs all =
     let ok = (rest_all shape xs (at_start k) all (start_rests shape k fine)).coherent in
-    subst (λ m. IsLegal shape m (behind_all shape xs (at_start k)).deeds) (config_all shape xs (at_start k)) (ok.legal, ok.authors)
+    subst (λ m. IsLegal shape m (after_all shape xs (at_start k)).deeds) (config_all shape xs (at_start k)) (ok.legal, ok.authors)

@@ -4,7 +4,7 @@ use Rattle.std.proofs.lemmas.{Bool.Decides.nat_tests, List.append-nil}
 use Rattle.std.specs.Prelude.{nat_lt, is_none}
 use Rattle.dspec_interleaving.specs.Words.{Shape, Record, op_bound, consumer_bound, most_steps, record_passes, is_about, PlayState, progress_of, start_fault, Stepped, begin_consumer, at_start}
 use Rattle.dspec_interleaving.specs.Words.{EndedCall, Playing, IsPlayingAt, begun_consumer, playing_at_start, ran, turned, all_turned, cpus_ran, all_ran, played, begin_refusal, or_else, setup_fault}
-use Rattle.dspec_interleaving.specs.Words.{refusal, turn_fault, play_fault, Call, of_cpu, of_consumer, behind_call, behind_all, whole_answer, IsCall, AreCalls, turn_of, actor_of, operation_of}
+use Rattle.dspec_interleaving.specs.Words.{refusal, turn_fault, play_fault, Call, of_cpu, of_consumer, once_called, after_all, whole_answer, IsCall, AreCalls, turn_of, actor_of, operation_of}
 use Rattle.dspec_interleaving.specs.Words.{HasAcceptedRecord, AreAccepted, all_ended, Config, StartFault, Answer, ConsumerOp}
 use Rattle.dspec_interleaving.specs.declared.{flight.CallPlace.CallPlace, flight.ConsumerFlight.ConsumerFlight, outcome.PlayFault.PlayFault}
 use Rattle.dspec_deeds.specs.declared.calls.Actor.TheVariants as actor
@@ -13,7 +13,7 @@ use Rattle.dspec_interleaving.specs.declared.flight.ConsumerFlight.TheVariants a
 use Rattle.dspec_interleaving.specs.declared.refusal.BeginFault.TheVariants as begin_fault
 use Rattle.dspec_deeds.proofs.SetUp.{set_up}
 use Rattle.dspec_interleaving.proofs.{Bounded.op_within, Bounded.clean_within, Coherence.begin_consumer_coherent, PlayerMoves.ended_stays, WholeCalls.cpu_whole, WholeCalls.consumer_whole}
-use Rattle.dspec_interleaving.proofs.{WholeEnds.EndsAs, WholeEnds.ends_as, WholeEnds.cpu_ends_as, WholeStates.IsResting, WholeStates.still_calls, WholeStates.rest_all, WholeStates.behind_rests}
+use Rattle.dspec_interleaving.proofs.{WholeEnds.EndsAs, WholeEnds.ends_as, WholeEnds.cpu_ends_as, WholeStates.IsResting, WholeStates.still_calls, WholeStates.rest_all, WholeStates.after_rests}
 use Rattle.dspec_interleaving.proofs.{WholeStates.start_rests, WholeStates.apart}
 
 -- a call with its answer
@@ -27,7 +27,7 @@ same_answer a b e = cc (e)
 module _ (shape : ℕ → Option Shape) where
   -- a play whose last call has ended so
   noted_at : (x : Call) (st : PlayState) (es : List EndedCall) (q : Playing) (s : Stepped) → EndsAs (actor_of x) (operation_of x) es q s
-      → s ≡ record { state = behind_call shape x st; answer = Some (whole_answer shape x st) } → IsPlayingAt (behind_call shape x st) (es ++ (ended_as shape x st ∷ [])) q
+      → s ≡ record { state = once_called shape x st; answer = Some (whole_answer shape x st) } → IsPlayingAt (once_called shape x st) (es ++ (ended_as shape x st ∷ [])) q
   noted_at x st es q s e is = record {
     state = sym (ap (λ (t : Stepped). t.state) is) ∙ e.at.state;
     told = ap (λ (a : Answer). es ++ ((actor_of x, operation_of x, a) ∷ [])) (same_answer _ _ (sym (ap (λ (t : Stepped). t.answer) is) ∙ e.answers)) ∙ e.at.told;
@@ -35,7 +35,7 @@ module _ (shape : ℕ → Option Shape) where
 
   -- one turn
   turn_at : (x : Call) (st : PlayState) (es : List EndedCall) (p : Playing) → IsPlayingAt st es p → IsResting shape st → IsCall st.config x
-      → IsPlayingAt (behind_call shape x st) (es ++ (ended_as shape x st ∷ [])) (turned shape (turn_of x) p)
+      → IsPlayingAt (once_called shape x st) (es ++ (ended_as shape x st ∷ [])) (turned shape (turn_of x) p)
   turn_at (of_cpu c o) st es p at rest lt =
       let most : op_bound st.config o ≤ most_steps p.state.config (actor.Cpu c) =
       subst (λ (s : PlayState). op_bound st.config o ≤ most_steps s.config (actor.Cpu c)) at.state (op_within st.config (set_up st.config rest.coherent.ranges).1 o) in
@@ -52,13 +52,13 @@ module _ (shape : ℕ → Option Shape) where
 
   -- turns, one after another
   turns_at : (xs : List Call) (st : PlayState) (es : List EndedCall) (p : Playing) → IsPlayingAt st es p → IsResting shape st → AreCalls st.config xs
-      → IsPlayingAt (behind_all shape xs st) (es ++ all_ended shape xs st) (all_turned shape (map turn_of xs) p)
+      → IsPlayingAt (after_all shape xs st) (es ++ all_ended shape xs st) (all_turned shape (map turn_of xs) p)
   turns_at [] st es p at rest all = record { state = at.state; told = append-nil es ∙ at.told }
   turns_at (x ∷ xs) st es p at rest all =
-      subst (λ l. IsPlayingAt (behind_all shape xs (behind_call shape x st)) l (all_turned shape (map turn_of xs) (turned shape (turn_of x) p)))
-      (append_assoc es (ended_as shape x st ∷ []) (all_ended shape xs (behind_call shape x st)))
-      (turns_at xs (behind_call shape x st) (es ++ (ended_as shape x st ∷ [])) (turned shape (turn_of x) p) (turn_at x st es p at rest all.0)
-      (behind_rests shape st rest x all.0) (still_calls shape x xs st all.1))
+      subst (λ l. IsPlayingAt (after_all shape xs (once_called shape x st)) l (all_turned shape (map turn_of xs) (turned shape (turn_of x) p)))
+      (append_assoc es (ended_as shape x st ∷ []) (all_ended shape xs (once_called shape x st)))
+      (turns_at xs (once_called shape x st) (es ++ (ended_as shape x st ∷ [])) (turned shape (turn_of x) p) (turn_at x st es p at rest all.0)
+      (after_rests shape st rest x all.0) (still_calls shape x xs st all.1))
 
   -- where no call of a CPU is in flight there is nothing to run
   cpus_stay : (n : ℕ) (p : Playing) → IsResting shape p.state → n ≤ p.state.config.cpus → cpus_ran shape n p ≡ p
@@ -78,12 +78,12 @@ module _ (shape : ℕ → Option Shape) where
 
   -- a whole play is where the definition of whole calls says, with the answers that it says
   pub whole_play : (k : Config) (xs : List Call) → start_fault k ≡ None → AreCalls k xs
-      → IsPlayingAt (behind_all shape xs (at_start k)) (all_ended shape xs (at_start k)) (played shape k (map turn_of xs))
+      → IsPlayingAt (after_all shape xs (at_start k)) (all_ended shape xs (at_start k)) (played shape k (map turn_of xs))
   whole_play k xs fine all =
       let rest = start_rests shape k fine in
-      let at : IsPlayingAt (behind_all shape xs (at_start k)) (all_ended shape xs (at_start k)) (all_turned shape (map turn_of xs) (playing_at_start k)) =
+      let at : IsPlayingAt (after_all shape xs (at_start k)) (all_ended shape xs (at_start k)) (all_turned shape (map turn_of xs) (playing_at_start k)) =
       turns_at xs (at_start k) [] (playing_at_start k) record { state = refl; told = refl } rest all in
-      subst (λ (q : Playing). IsPlayingAt (behind_all shape xs (at_start k)) (all_ended shape xs (at_start k)) q)
+      subst (λ (q : Playing). IsPlayingAt (after_all shape xs (at_start k)) (all_ended shape xs (at_start k)) q)
       (sym (all_stay (all_turned shape (map turn_of xs) (playing_at_start k)) (subst (λ s. IsResting shape s) at.state (rest_all shape xs (at_start k) all rest)))) at
 
 module _ (shape : ℕ → Option Shape) (accepts : Record → Bool) where
@@ -113,8 +113,8 @@ module _ (shape : ℕ → Option Shape) (accepts : Record → Bool) where
   turns_unrefused i (x ∷ xs) st es p at rest all fit =
       ap (λ (f : Option PlayFault). or_else f (turn_fault shape accepts (i + 1) (map turn_of xs) (turned shape (turn_of x) p)))
       (subst (λ s. refusal shape accepts i (turn_of x) s ≡ None) at.state (unrefused i x st rest all.0 fit.0))
-      ∙ turns_unrefused (i + 1) xs (behind_call shape x st) (es ++ (ended_as shape x st ∷ [])) (turned shape (turn_of x) p) (turn_at shape x st es p at rest all.0)
-      (behind_rests shape st rest x all.0) (still_calls shape x xs st all.1) fit.1
+      ∙ turns_unrefused (i + 1) xs (once_called shape x st) (es ++ (ended_as shape x st ∷ [])) (turned shape (turn_of x) p) (turn_at shape x st es p at rest all.0)
+      (after_rests shape st rest x all.0) (still_calls shape x xs st all.1) fit.1
 
   -- a whole play is refused nowhere
   pub whole_unrefused : (k : Config) (xs : List Call) → start_fault k ≡ None → AreCalls k xs → AreAccepted accepts xs → play_fault shape accepts k (map turn_of xs) ≡ None

@@ -2,7 +2,7 @@
 use Rattle.std.proofs.Common.{◌≡◌, ℕ, ◌+◌, Bool, true, false, ◌&&◌, List, [], ◌∷◌, ◌++◌, Option, Some, None, refl, sym, ap, ◌∙◌, subst, ⊎_elim, arith}
 use Rattle.std.specs.Prelude.{map, nat_le}
 use Rattle.dspec_interleaving.specs.Words.{Shape, Config, Actor, Answer, CpuOp, Op, Deed, author, same_actor, calls, op_of, PlayState, progress_of, cpu_step, EndedCall, Noted, ended, with_note}
-use Rattle.dspec_interleaving.specs.Words.{is_by, is_worn_answer, step_cpu, step_consumer, step, is_counted, is_first, is_told_worn, entered_calls, is_worn_behind, AreWornRightly}
+use Rattle.dspec_interleaving.specs.Words.{is_by, is_worn_answer, step_cpu, step_consumer, step, is_counted, is_first, is_told_worn, entered_calls, is_worn_after, AreWornRightly}
 use Rattle.dspec_interleaving.specs.declared.flight.{CallPlace.CallPlace, ConsumerFlight.ConsumerFlight, CpuProgress.CpuProgress}
 use Rattle.dspec_deeds.specs.declared.calls.Actor.TheVariants as actor
 use Rattle.dspec_deeds.specs.declared.calls.Op.TheVariants as op
@@ -40,7 +40,7 @@ pub record HasEntered (k : Config) (c : ℕ) (h : List Deed) (x : Option CallPla
 
 -- the test of a step is that of its call
 pub same_test : (k : Config) (c : ℕ) (h : List Deed) (f : CallPlace) (es : List EndedCall) → HasEntered k c h (Some f) es
-    → (is_first (Some f) && nat_le k.max_calls (calls c h)) ≡ is_worn_behind k (actor.Cpu c) (op.Cpu (op_of f)) es
+    → (is_first (Some f) && nat_le k.max_calls (calls c h)) ≡ is_worn_after k (actor.Cpu c) (op.Cpu (op_of f)) es
 same_test k c h (cpu.Begun o) es was =
     let counts = was.counts in
     let same : calls c h ≡ entered_calls c es = omega arith in
@@ -57,7 +57,7 @@ is_counted_on o (cpu.Begun p) is now = absurd (cc (now))
 is_counted_on o x is now = ap (λ y. is_counted (op.Cpu y)) (sym is) ∙ now
 
 -- a call that isn't worn at a step isn't worn after it, where it counts
-unworn_on : (k : Config) (c : ℕ) (o : CpuOp) (es : List EndedCall) → is_counted (op.Cpu o) ≡ true → is_worn_behind k (actor.Cpu c) (op.Cpu o) es ≡ false
+unworn_on : (k : Config) (c : ℕ) (o : CpuOp) (es : List EndedCall) → is_counted (op.Cpu o) ≡ true → is_worn_after k (actor.Cpu c) (op.Cpu o) es ≡ false
     → nat_le k.max_calls (entered_calls c es) ≡ false
 unworn_on k c o es counted e = ap (λ b. b && nat_le k.max_calls (entered_calls c es)) (sym counted) ∙ e
 
@@ -74,7 +74,7 @@ note_beside b a o ds st None ns other = refl
 note_beside b a o ds st (Some x) ns other = rw other (omega arith)
 
 pub note_right : (k : Config) (a : Actor) (o : Op) (ds : List Deed) (st : PlayState) (r : Option Answer) (ns : List Noted)
-    → ((x : Answer) → r ≡ Some x → is_worn_answer x ≡ is_worn_behind k a o (map ended ns))
+    → ((x : Answer) → r ≡ Some x → is_worn_answer x ≡ is_worn_after k a o (map ended ns))
     → AreWornRightly k (map ended ns) → AreWornRightly k (map ended (with_note a o ds st r ns))
 note_right k a o ds st None ns is was = was
 note_right k a o ds st (Some x) ns is was = (is x refl, was)
@@ -111,7 +111,7 @@ entered_now shape k c h me f ds st ns was =
           (λ (g : HasGoneOn k me _ _ m).
           let same : op_of g.next ≡ op_of f = step_passes (λ o. o ≡ op_of f) shape k c h me f refl g.next g.flight in
           let counted = is_counted_on (op_of f) g.next same (ap is_on (sym g.flight) ∙ on) in
-          let unworn : is_worn_behind k (actor.Cpu c) (op.Cpu (op_of f)) (map ended ns) ≡ false = sym (same_test k c h f (map ended ns) was) ∙ (sym wears.told ∙ ap is_told_worn g.answers) in
+          let unworn : is_worn_after k (actor.Cpu c) (op.Cpu (op_of f)) (map ended ns) ≡ false = sym (same_test k c h f (map ended ns) was) ∙ (sym wears.told ∙ ap is_told_worn g.answers) in
           subst (λ r. nat_le k.max_calls (entered_calls c (map ended (with_note (actor.Cpu c) (op.Cpu (op_of f)) ds st r ns))) ≡ false) (sym g.answers)
           (unworn_on k c (op_of f) (map ended ns) counted unworn))
           (cpu_advances shape k c h me f);

@@ -2,11 +2,10 @@
 use Rattle.std.specs.Prelude.{ℕ, ◌≡◌, ◌≢◌, ◌<◌, ◌∷◌, ◌++◌, Bool, false, nat_le, ◌&&◌, List, map, Option, Some, None}
 use Rattle.dspec_interleaving.specs.{Bounds.flight_bound, Bounds.op_bound, Bounds.consumer_bound, Coherent.PlayState, Coherent.progress_of, CpuClose.IsCloseOf, Plays.answers_of, Plays.play_fault}
 use Rattle.dspec_interleaving.specs.{Plays.played, Plays.worn_count, SoloRule.IsReleasing, SoloRule.ReleasesLast, Turns.at_start, Turns.begin_cpu, Turns.begin_consumer, Turns.step, Turns.on_to_end}
-use Rattle.dspec_interleaving.specs.{Wearing.is_first, Whole.Call, Whole.of_consumer, Whole.behind_cpu, Whole.cpu_call, Whole.behind_consumer, Whole.consumer_call, Whole.behind_all}
-use Rattle.dspec_interleaving.specs.{Whole.HasService, Whole.IsReleased, WholePlays.turn_of, Words.Outside.Record, Words.Outside.Speculation, Words.Outside.closing, Words.Outside.solo}
-use Rattle.dspec_interleaving.specs.{Words.Outside.verdict, Words.Outside.is_undecided, Words.Outside.scan, Words.Outside.calls, Words.Outside.woven, Words.Outside.HaveLists, Words.Outside.Shape}
-use Rattle.dspec_interleaving.specs.{Words.Outside.ConsumerOp, Words.Outside.CpuOp, Words.Outside.Turn, Words.Outside.Config, Words.Outside.DecideFate, Words.Outside.Deed}
-use Rattle.dspec_interleaving.specs.{declared.flight.CallPlace.CallPlace}
+use Rattle.dspec_interleaving.specs.{Wearing.is_first, Whole.Call, Whole.of_consumer, Whole.after_cpu, Whole.cpu_call, Whole.after_consumer, Whole.consumer_call, Whole.after_all, Whole.HasService}
+use Rattle.dspec_interleaving.specs.{Whole.IsReleased, WholePlays.turn_of, Words.Outside.Record, Words.Outside.Speculation, Words.Outside.closing, Words.Outside.solo, Words.Outside.verdict}
+use Rattle.dspec_interleaving.specs.{Words.Outside.is_undecided, Words.Outside.scan, Words.Outside.calls, Words.Outside.woven, Words.Outside.HaveLists, Words.Outside.Shape, Words.Outside.ConsumerOp}
+use Rattle.dspec_interleaving.specs.{Words.Outside.CpuOp, Words.Outside.Turn, Words.Outside.Config, Words.Outside.DecideFate, Words.Outside.Deed, declared.flight.CallPlace.CallPlace}
 use Rattle.dspec_deeds.specs.declared.calls.Actor.TheVariants as actor
 use Rattle.dspec_deeds.specs.declared.calls.ConsumerOp.TheVariants as consumer_op
 use Rattle.dspec_interleaving.specs.declared.flight.CallPlace.TheVariants as flight
@@ -42,13 +41,13 @@ module _ (shape : ℕ → Option Shape) where
   abbrev pub RunsAsWholeCpu : PlayState → ℕ → CpuOp → Type 0
   RunsAsWholeCpu st c o =
       on_to_end shape (op_bound st.config o) (actor.Cpu c) (begin_cpu c o st) None
-      ≡ record { state = behind_cpu c (cpu_call shape c o st) st; answer = Some (cpu_call shape c o st).answer }
+      ≡ record { state = after_cpu c (cpu_call shape c o st) st; answer = Some (cpu_call shape c o st).answer }
 
   -- the same of a call of the consumer
   abbrev pub RunsAsWholeConsumer : PlayState → ConsumerOp → Type 0
   RunsAsWholeConsumer st o =
       on_to_end shape (consumer_bound st.config o) actor.Consumer (begin_consumer o st) None
-      ≡ record { state = behind_consumer (consumer_call shape o st) st; answer = Some (consumer_call shape o st).answer }
+      ≡ record { state = after_consumer (consumer_call shape o st) st; answer = Some (consumer_call shape o st).answer }
 
   -- after the play as many of the CPU's calls are counted as worn as were answered Worn
   abbrev pub CountsWorn : Config → List Turn → ℕ → Type 0
@@ -58,8 +57,8 @@ module _ (shape : ℕ → Option Shape) where
   -- slot, and so it stays after the calls ys
   abbrev pub IsReleasedBy : Config → Speculation → List Call → List Call → List Call → Type 0
   IsReleasedBy k id ws xs ys =
-      is_undecided (verdict id (behind_all shape ws (at_start k)).deeds) ≡ false → ((c : ℕ) → c < k.cpus → HasService c xs)
-      → IsReleased id (behind_all shape (xs ++ (of_consumer consumer_op.Clean ∷ ys)) (behind_all shape ws (at_start k))).deeds
+      is_undecided (verdict id (after_all shape ws (at_start k)).deeds) ≡ false → ((c : ℕ) → c < k.cpus → HasService c xs)
+      → IsReleased id (after_all shape (xs ++ (of_consumer consumer_op.Clean ∷ ys)) (after_all shape ws (at_start k))).deeds
 
   -- where p has each CPU's list of those, and no call of speculation is under way, the close of the woven list is that of these lists
   abbrev pub ClosesWoven : Config → (ℕ → List Deed) → List Deed → Type 0

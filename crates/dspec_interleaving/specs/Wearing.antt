@@ -33,11 +33,11 @@ entered_calls c [] = 0
 entered_calls c (e ∷ es) = entered_calls c es + (if is_by c e.0 && enters_call e.1 e.2 then 1 else 0)
 
 -- a call after these is worn
-abbrev pub is_worn_behind : Config → Actor → Op → List EndedCall → Bool
-is_worn_behind k (actor.Cpu c) o es = is_counted o && nat_le k.max_calls (entered_calls c es)
-is_worn_behind k actor.Consumer o es = false
+abbrev pub is_worn_after : Config → Actor → Op → List EndedCall → Bool
+is_worn_after k (actor.Cpu c) o es = is_counted o && nat_le k.max_calls (entered_calls c es)
+is_worn_after k actor.Consumer o es = false
 
 -- of ended calls, the latest first, exactly those are answered Worn whose CPU had entered as many before as it may make
 abbrev pub AreWornRightly : Config → List EndedCall → Type 0
 AreWornRightly k [] = Unit {0}
-AreWornRightly k (e ∷ es) = (is_worn_answer e.2 ≡ is_worn_behind k e.0 e.1 es) × AreWornRightly k es
+AreWornRightly k (e ∷ es) = (is_worn_answer e.2 ≡ is_worn_after k e.0 e.1 es) × AreWornRightly k es

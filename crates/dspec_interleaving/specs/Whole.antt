@@ -175,11 +175,11 @@ module _ (k : Config) where
   whole_consumer all h consumer_op.Stop = record { list = if halted h then h else Halt ∷ h; progresses = all; answer = answer.StopDone }
 
 -- the state after a whole call
-abbrev pub behind_cpu : ℕ → WholeCpu → PlayState → PlayState
-behind_cpu c w st = record st { deeds = w.list; progresses = slice_set st.progresses c w.progress }
+abbrev pub after_cpu : ℕ → WholeCpu → PlayState → PlayState
+after_cpu c w st = record st { deeds = w.list; progresses = slice_set st.progresses c w.progress }
 
-abbrev pub behind_consumer : WholeConsumer → PlayState → PlayState
-behind_consumer w st = record st { deeds = w.list; progresses = w.progresses; side = record { flight = None; steps = 0 } }
+abbrev pub after_consumer : WholeConsumer → PlayState → PlayState
+after_consumer w st = record st { deeds = w.list; progresses = w.progresses; side = record { flight = None; steps = 0 } }
 
 -- a whole call, with its CPU
 pub data Call : Type 0 where
@@ -193,14 +193,14 @@ module _ (shape : ℕ → Option Shape) where
   abbrev pub consumer_call : ConsumerOp → PlayState → WholeConsumer
   consumer_call o st = whole_consumer st.config st.progresses st.deeds o
 
-  abbrev pub behind_call : Call → PlayState → PlayState
-  behind_call (of_cpu c o) st = behind_cpu c (cpu_call c o st) st
-  behind_call (of_consumer o) st = behind_consumer (consumer_call o st) st
+  abbrev pub once_called : Call → PlayState → PlayState
+  once_called (of_cpu c o) st = after_cpu c (cpu_call c o st) st
+  once_called (of_consumer o) st = after_consumer (consumer_call o st) st
 
   -- after whole calls, the first at the head
-  abbrev pub behind_all : List Call → PlayState → PlayState
-  behind_all [] st = st
-  behind_all (x ∷ xs) st = behind_all xs (behind_call x st)
+  abbrev pub after_all : List Call → PlayState → PlayState
+  after_all [] st = st
+  after_all (x ∷ xs) st = after_all xs (once_called x st)
 
   abbrev pub whole_answer : Call → PlayState → Answer
   whole_answer (of_cpu c o) st = (cpu_call c o st).answer

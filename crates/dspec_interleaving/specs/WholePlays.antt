@@ -1,6 +1,6 @@
 -- Serves proofs. A schedule of whole calls: its turns, and what it answers.
 use Rattle.std.specs.Prelude.{◌≡◌, ℕ, Bool, true, List, [], ◌∷◌, Option}
-use Rattle.dspec_interleaving.specs.{Calls.record_passes, Coherent.PlayState, Plays.EndedCall, Whole.Call, Whole.of_cpu, Whole.of_consumer, Whole.behind_call, Whole.whole_answer}
+use Rattle.dspec_interleaving.specs.{Calls.record_passes, Coherent.PlayState, Plays.EndedCall, Whole.Call, Whole.of_cpu, Whole.of_consumer, Whole.once_called, Whole.whole_answer}
 use Rattle.dspec_interleaving.specs.{Words.Outside.Shape, Words.Outside.Record, Words.Outside.Actor, Words.Outside.Op, Words.Outside.Turn, Words.Outside.RunCpu, Words.Outside.RunConsumer}
 use Rattle.dspec_deeds.specs.declared.calls.Actor.TheVariants as actor
 use Rattle.dspec_deeds.specs.declared.calls.Op.TheVariants as op
@@ -30,4 +30,4 @@ AreAccepted accepts (x ∷ xs) = HasAcceptedRecord accepts x × AreAccepted acce
 -- whole calls with their answers, the first at the head
 abbrev pub all_ended : (ℕ → Option Shape) → List Call → PlayState → List EndedCall
 all_ended shape [] st = []
-all_ended shape (x ∷ xs) st = (actor_of x, operation_of x, whole_answer shape x st) ∷ all_ended shape xs (behind_call shape x st)
+all_ended shape (x ∷ xs) st = (actor_of x, operation_of x, whole_answer shape x st) ∷ all_ended shape xs (once_called shape x st)

@@ -18,9 +18,9 @@ pub use Rattle.dspec_interleaving.specs.SoloRule.{DecidesNothing, IsLast, IsRele
 pub use Rattle.dspec_interleaving.specs.Step.{asked, begun, call_goes_on, call_step, committed_by, CpuStep, discarded_by, ends, is_alone, is_release, loads_service, Measured, missed, popped}
 pub use Rattle.dspec_interleaving.specs.Step.{same_word, sealed_by, served, shown_commit, shown_discard, shown_scan, shown_service, shown_speculate, spoken_at, wears}
 pub use Rattle.dspec_interleaving.specs.Turns.{at_start, begin_consumer, begin_cpu, cleaned_to, idle_cpus, moved_to, on_to_end, step, step_consumer, step_cpu, Stepped}
-pub use Rattle.dspec_interleaving.specs.Wearing.{AreWornRightly, entered_calls, enters_call, is_counted, is_first, is_told_worn, is_worn_behind}
-pub use Rattle.dspec_interleaving.specs.Whole.{all_settled, are_all_back, AreCalls, behind_all, behind_call, behind_consumer, behind_cpu, Call, cleaned_at, cleaned_up, consumer_call, cpu_call}
-pub use Rattle.dspec_interleaving.specs.Whole.{enters, gives, HasService, is_any_busy, is_out, is_reapable, is_sealing, IsApart, IsCall, IsReleased, least_free, missed_up, of_consumer, of_cpu}
+pub use Rattle.dspec_interleaving.specs.Wearing.{AreWornRightly, entered_calls, enters_call, is_counted, is_first, is_told_worn, is_worn_after}
+pub use Rattle.dspec_interleaving.specs.Whole.{after_all, after_consumer, after_cpu, all_settled, are_all_back, AreCalls, Call, cleaned_at, cleaned_up, consumer_call, cpu_call, enters, gives}
+pub use Rattle.dspec_interleaving.specs.Whole.{HasService, is_any_busy, is_out, is_reapable, is_sealing, IsApart, IsCall, IsReleased, least_free, missed_up, of_consumer, of_cpu, once_called}
 pub use Rattle.dspec_interleaving.specs.Whole.{or_slot, owes, releases_up, settled_at, settled_up, settlements_up_to, settles_as, wears_out, whole_answer, whole_cpu, whole_service, WholeConsumer}
 pub use Rattle.dspec_interleaving.specs.Whole.{WholeCpu}
 pub use Rattle.dspec_interleaving.specs.WholePlays.{actor_of, all_ended, AreAccepted, HasAcceptedRecord, operation_of, turn_of}

@@ -10,7 +10,7 @@ ghost use Rattle.dspec_deeds.specs.{declared.deed.Deed.Deed};
 ghost use Rattle.dspec_interleaving.specs.{Bounds.clean_bound, Coherent.IsCoherent, Coherent.PlayState, Coherent.progress_of, Laws.AreCpusIdle, Laws.ArePlayed, Laws.ClosesWoven, Laws.CountsWorn};
 ghost use Rattle.dspec_interleaving.specs.{Laws.IsBelowBound, Laws.IsCpuIdle, Laws.IsReleasedBy, Laws.ReleasesAsItDecides, Laws.ReleasesAtNextStep, Laws.RunsAsWholeConsumer, Laws.RunsAsWholeCpu};
 ghost use Rattle.dspec_interleaving.specs.{Laws.is_worn_next, Plays.IsReadOff, Plays.answers_of, Plays.play_fault, Plays.played, SoloRule.DecidesNothing, Turns.at_start, Turns.begin_cpu};
-ghost use Rattle.dspec_interleaving.specs.{Turns.begin_consumer, Turns.step, Wearing.is_told_worn, Wearing.AreWornRightly, Whole.Call, Whole.behind_all, Whole.IsApart, Whole.AreCalls};
+ghost use Rattle.dspec_interleaving.specs.{Turns.begin_consumer, Turns.step, Wearing.is_told_worn, Wearing.AreWornRightly, Whole.Call, Whole.after_all, Whole.IsApart, Whole.AreCalls};
 ghost use Rattle.dspec_interleaving.specs.{WholePlays.turn_of, WholePlays.AreAccepted, WholePlays.all_ended, declared.flight.CallPlace.CallPlace, declared.flight.ConsumerFlight.ConsumerFlight};
 
 /// A play begins coherent, and every begin and every atomic step of whichever actor keeps it so: its list of deeds is
@@ -92,11 +92,11 @@ pub fn whole_plays()
     ensures unrefused { (shape : ℕ → Option Shape) (accepts : Record → Bool) (k : Config) (xs : List Call) → start_fault k ≡ None
         → AreCalls k xs → AreAccepted accepts xs → ArePlayed shape accepts k xs }
     ensures state { (shape : ℕ → Option Shape) (k : Config) (xs : List Call) → start_fault k ≡ None
-        → AreCalls k xs → (played shape k (map turn_of xs)).state ≡ behind_all shape xs (at_start k) }
+        → AreCalls k xs → (played shape k (map turn_of xs)).state ≡ after_all shape xs (at_start k) }
     ensures answers { (shape : ℕ → Option Shape) (k : Config) (xs : List Call) → start_fault k ≡ None
         → AreCalls k xs → answers_of shape k (map turn_of xs) ≡ all_ended shape xs (at_start k) }
     ensures legal { (shape : ℕ → Option Shape) (k : Config) (xs : List Call) → start_fault k ≡ None → AreCalls k xs
-        → IsLegal shape k (behind_all shape xs (at_start k)).deeds }
+        → IsLegal shape k (after_all shape xs (at_start k)).deeds }
 {}
 
 /// Once each CPU has run a service after a decision, and the consumer a clean after those, the slot has been released.

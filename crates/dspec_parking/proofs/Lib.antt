@@ -3,6 +3,7 @@ mod Cutting
 mod Ending
 mod Finding
 mod Keeping
+mod Laying
 mod Leaving
 mod Lists
 mod Passes

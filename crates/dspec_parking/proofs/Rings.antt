@@ -2,22 +2,15 @@
 use Rattle.std.proofs.Common.{◌≡◌, ℕ, ◌+◌, ◌-◌, ◌<◌, ◌≤◌, Bool, false, List, [], ◌∷◌, ◌++◌, length, drop, set, Some, sym, ap, subst, ◌∙◌, arith, length-append, length-drop, length-set}
 use Rattle.std.proofs.lemmas.List.{length_push, Sums.sum_by_push}
 use Rattle.std.specs.{List.sum_by, Prelude.slice_get}
-use Rattle.circular_buffer.specs.Buffer.{Buffer, buffer, keep_last}
-use Rattle.dspec_parking.specs.Words.{FitsBeside, IsInBounds, ParkingPlace, StoredBlock, used_bytes, without_oldest, with_block, with_kept, IsRing, entry_bytes, places_cut, ring_shown, wrapped}
+use Rattle.circular_buffer.specs.Buffer.{Buffer, buffer}
+use Rattle.dspec_parking.specs.Words.{RingBytes, ring_bytes, FitsBeside, IsInBounds, ParkingPlace, StoredBlock, used_bytes, without_oldest, with_block, with_kept, IsRing, entry_bytes, places_cut}
+use Rattle.dspec_parking.specs.Words.{ring_shown, wrapped}
 use Rattle.dspec_parking.specs.declared.{block_ring.BlockRing.TheInside.Inside, parking_entry.ParkingEntry.ParkingEntry}
 use Rattle.dspec_parking.proofs.Cutting.{kept_entry, length-places_cut, places_cut-kept, places_cut-push, places_cut-rest, sum_by-kept, sum_by-rest, used_bytes-places_cut}
 use Rattle.dspec_parking.proofs.Starting.{StartsFrom-kept, StartsFrom-push, StartsFrom-rest}
 
-abbrev pub inside : Buffer ℕ → Buffer ParkingEntry → ℕ → Inside
+abbrev pub inside : RingBytes → Buffer ParkingEntry → ℕ → Inside
 inside bytes entries passed = record { bytes = bytes; entries = entries; passed = passed }
-
--- what fits is kept whole
-keep_last-fits : {X : Type 0} (n : ℕ) (xs : List X) → length xs ≤ n → keep_last n xs ≡ xs
-keep_last-fits n xs fits = let none : length xs - n ≡ 0 = omega arith in ap (λ (k : ℕ). drop k xs) none
-
--- all but the first bytes are kept
-keep_last-but : {X : Type 0} (n : ℕ) (xs : List X) → n ≤ length xs → keep_last (length xs - n) xs ≡ drop n xs
-keep_last-but n xs fits = let first : length xs - (length xs - n) ≡ n = omega arith in ap (λ (k : ℕ). drop k xs) first
 
 module _ (r : Inside) (is : IsRing r) where
   pub shown_length : length (ring_shown r).places ≡ length r.entries.items
@@ -50,9 +43,9 @@ module _ (r : Inside) (is : IsRing r) where
       (omega arith, omega arith)
 
   -- one block more
-  pub push_shows : (e : ParkingEntry) (more : List ℕ) (bytes : Buffer ℕ) (entries : Buffer ParkingEntry) → FitsBeside (ring_shown r) (length more) → e.length ≡ length more
-      → e.start ≡ wrapped (r.passed + length r.bytes.items) → e.is_kept ≡ false → bytes ≡ buffer (keep_last r.bytes.capacity (r.bytes.items ++ more)) r.bytes.capacity
-      → entries ≡ buffer (keep_last r.entries.capacity (r.entries.items ++ e ∷ [])) r.entries.capacity
+  pub push_shows : (e : ParkingEntry) (more : List ℕ) (bytes : RingBytes) (entries : Buffer ParkingEntry) → FitsBeside (ring_shown r) (length more) → e.length ≡ length more
+      → e.start ≡ wrapped (r.passed + length r.bytes.items) → e.is_kept ≡ false → bytes ≡ ring_bytes (r.bytes.items ++ more) r.bytes.capacity
+      → entries ≡ buffer (r.entries.items ++ e ∷ []) r.entries.capacity
       → IsRing (inside bytes entries r.passed) × (ring_shown (inside bytes entries r.passed) ≡ with_block (record { key = e.key; stamp = e.stamp; bytes = more }) (ring_shown r))
   push_shows e more bytes entries room long starts standing bytes_are entries_are =
       let bs = r.bytes.items in
@@ -71,8 +64,8 @@ module _ (r : Inside) (is : IsRing r) where
       let all : sum_by entry_bytes (es ++ e ∷ []) ≡ sum_by entry_bytes es + e.length = sum_by_push entry_bytes es e in
       let at : e.start ≡ wrapped (r.passed + sum_by entry_bytes es) = starts ∙ ap (λ (n : ℕ). wrapped (r.passed + n)) (sym lengths) in
       let block : StoredBlock = record { key = e.key; stamp = e.stamp; bytes = more } in
-      let shows = λ (b : Buffer ℕ) (c : Buffer ParkingEntry). IsRing (inside b c r.passed) × (ring_shown (inside b c r.passed) ≡ with_block block (ring_shown r)) in
-      let keeps : IsRing (inside (buffer (bs ++ more) size) (buffer (es ++ e ∷ []) most) r.passed) = record {
+      let shows = λ (b : RingBytes) (c : Buffer ParkingEntry). IsRing (inside b c r.passed) × (ring_shown (inside b c r.passed) ≡ with_block block (ring_shown r)) in
+      let keeps : IsRing (inside (ring_bytes (bs ++ more) size) (buffer (es ++ e ∷ []) most) r.passed) = record {
         lengths = omega arith;
         starts = StartsFrom-push es r.passed e is.starts at;
         wraps = is.wraps;
@@ -82,14 +75,21 @@ module _ (r : Inside) (is : IsRing r) where
       } in
       let places : places_cut (es ++ e ∷ []) (bs ++ more) ≡ places_cut es bs ++ record { block = block; is_kept = false } ∷ [] =
       places_cut-push es bs more e lengths long ∙ ap (λ (b : Bool). places_cut es bs ++ record { block = block; is_kept = b } ∷ []) standing in
-      subst (λ (b : Buffer ℕ). shows b entries) (sym (bytes_are ∙ ap (λ (l : List ℕ). buffer l size) (keep_last-fits size (bs ++ more) bytes_fit)))
-      (subst (λ (c : Buffer ParkingEntry). shows (buffer (bs ++ more) size) c)
-      (sym (entries_are ∙ ap (λ (l : List ParkingEntry). buffer l most) (keep_last-fits most (es ++ e ∷ []) entries_fit)))
+      subst (λ (b : RingBytes). shows b entries) (sym bytes_are)
+      (subst (λ (c : Buffer ParkingEntry). shows (ring_bytes (bs ++ more) size) c)
+      (sym entries_are)
       (keeps, ap (λ (ps : List ParkingPlace). record { size = size; most = most; places = ps }) places))
 
+  -- the first has no more bytes than there are
+  pub oldest_fits : (e : ParkingEntry) → slice_get r.entries.items 0 ≡ Some e → e.length ≤ length r.bytes.items
+  oldest_fits e first =
+      let lengths : sum_by entry_bytes r.entries.items ≡ length r.bytes.items = is.lengths in
+      let all : sum_by entry_bytes r.entries.items ≡ e.length + sum_by entry_bytes (drop 1 r.entries.items) = sum_by-rest r.entries.items e first in
+      omega arith
+
   -- the first goes
-  pub pass_shows : (e : ParkingEntry) (bytes : Buffer ℕ) (entries : Buffer ParkingEntry) (passed : ℕ) → slice_get r.entries.items 0 ≡ Some e
-      → bytes ≡ buffer (keep_last (length r.bytes.items - e.length) r.bytes.items) r.bytes.capacity → entries ≡ buffer (drop 1 r.entries.items) r.entries.capacity
+  pub pass_shows : (e : ParkingEntry) (bytes : RingBytes) (entries : Buffer ParkingEntry) (passed : ℕ) → slice_get r.entries.items 0 ≡ Some e
+      → bytes ≡ ring_bytes (drop e.length r.bytes.items) r.bytes.capacity → entries ≡ buffer (drop 1 r.entries.items) r.entries.capacity
       → passed ≡ wrapped (r.passed + e.length)
       → IsRing (inside bytes entries passed) × (ring_shown (inside bytes entries passed) ≡ without_oldest 1 (ring_shown r))
   pass_shows e bytes entries passed first bytes_are entries_are passed_is =
@@ -104,8 +104,8 @@ module _ (r : Inside) (is : IsRing r) where
       let one_fewer : length (drop 1 es) ≡ length es - 1 = length-drop 1 es in
       let bytes_fit : length bs ≤ size = is.bytes in
       let entries_fit : length es ≤ most = is.entries in
-      let shows = λ (b : Buffer ℕ) (c : Buffer ParkingEntry) (n : ℕ). IsRing (inside b c n) × (ring_shown (inside b c n) ≡ without_oldest 1 (ring_shown r)) in
-      let keeps : IsRing (inside (buffer (drop e.length bs) size) (buffer (drop 1 es) most) (wrapped (r.passed + e.length))) = record {
+      let shows = λ (b : RingBytes) (c : Buffer ParkingEntry) (n : ℕ). IsRing (inside b c n) × (ring_shown (inside b c n) ≡ without_oldest 1 (ring_shown r)) in
+      let keeps : IsRing (inside (ring_bytes (drop e.length bs) size) (buffer (drop 1 es) most) (wrapped (r.passed + e.length))) = record {
         lengths = omega arith;
         starts = StartsFrom-rest es r.passed e first is.starts;
         wraps = omega arith;
@@ -114,8 +114,8 @@ module _ (r : Inside) (is : IsRing r) where
         entries = omega arith;
       } in
       subst (λ (n : ℕ). shows bytes entries n) (sym passed_is)
-      (subst (λ (b : Buffer ℕ). shows b entries (wrapped (r.passed + e.length))) (sym (bytes_are ∙ ap (λ (l : List ℕ). buffer l size) (keep_last-but e.length bs fits)))
-      (subst (λ (c : Buffer ParkingEntry). shows (buffer (drop e.length bs) size) c (wrapped (r.passed + e.length))) (sym entries_are)
+      (subst (λ (b : RingBytes). shows b entries (wrapped (r.passed + e.length))) (sym bytes_are)
+      (subst (λ (c : Buffer ParkingEntry). shows (ring_bytes (drop e.length bs) size) c (wrapped (r.passed + e.length))) (sym entries_are)
       (keeps, ap (λ (ps : List ParkingPlace). record { size = size; most = most; places = ps }) (sym (places_cut-rest es bs e first)))))
 
   -- a block is kept

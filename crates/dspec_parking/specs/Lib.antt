@@ -1,4 +1,6 @@
 pub mod Blocks
+pub mod ByteFields
+pub mod Bytes
 pub mod Laws
 pub mod ParkingPage
 pub mod Parkings

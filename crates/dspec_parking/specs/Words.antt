@@ -1,5 +1,7 @@
 -- Serves proofs. The words of this crate for its proofs and for the crates above, in one place. Declares nothing.
 pub use Rattle.dspec_parking.specs.Blocks.{bytes_at, FitsBeside, is_standing, IsInBounds, ParkingPlace, ParkingRing, standing_in, StoredBlock, used_bytes, without_oldest}
+pub use Rattle.dspec_parking.specs.ByteFields.{bytes_shown, laid_from}
+pub use Rattle.dspec_parking.specs.Bytes.{ring_bytes, RingBytes}
 pub use Rattle.dspec_parking.specs.Laws.{EndsAll}
 pub use Rattle.dspec_parking.specs.ParkingPage.{BlockFate, CountsEnds, entered, evicted, expired, fate_count, GoesBy, GoesOnBy, HasEnded, is_fate, is_given_up, KeepsParking, kept, left, OldestFirst}
 pub use Rattle.dspec_parking.specs.ParkingPage.{ParkedOnce, Register, standing}

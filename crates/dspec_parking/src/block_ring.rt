@@ -1,3 +1,4 @@
+use crate::byte_ring::ByteRing;
 use crate::parking_entry::ParkingEntry;
 use crate::parking_key::ParkingKey;
 use circular_buffer::HeapCircularBuffer;
@@ -7,7 +8,7 @@ use std::marker::Model;
 /// Blocks of bytes in a ring, with what it knows of each.
 #[derive(Drop)]
 pub struct BlockRing {
-    pub(crate) bytes: HeapCircularBuffer<u8>,
+    pub(crate) bytes: ByteRing,
     pub(crate) entries: HeapCircularBuffer<ParkingEntry>,
     /// How many bytes the tail has passed, modulo 2^64.
     pub(crate) passed: usize,
@@ -33,7 +34,7 @@ impl BlockRing {
     pub fn new(alloc: Global, bytes: usize, most: usize) -> Result<BlockRing, AllocError>
         ensures { IfOk result (λ r. r ≡ empty_ring bytes most) }
     {
-        let bytes = HeapCircularBuffer::with_capacity(alloc, bytes)?;
+        let bytes = ByteRing::with_capacity(alloc, bytes)?;
         let entries = HeapCircularBuffer::with_capacity(alloc, most)?;
         Ok(BlockRing {
             bytes,
@@ -77,7 +78,9 @@ impl BlockRing {
             length: bytes.len(),
             is_kept: false,
         };
-        self.bytes.extend_from_slice(bytes);
-        self.entries.push_back(entry);
+        self.bytes.extend(bytes);
+        let Ok(()) = self.entries.try_push_back(entry) else {
+            unreachable!()
+        };
     }
 }

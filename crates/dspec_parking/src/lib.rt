@@ -10,12 +10,14 @@
 //! | `parking_key.rt`, `parked_block.rt`, `parked.rt`, `passed_places.rt`, `parking_counts.rt` | a key; what is told of a block; what came of one; what the tail passed; the counts |
 //! | `parking.rt` | `Parking`: how it is made, what is asked of it |
 //! | `parking_calls.rt` | a block that is parked, or comes out; those that expire; the end of the ring |
-//! | `parking_entry.rt`, `block_ring.rt` | what a ring knows of a place; `BlockRing`: blocks in order, over two rings of the kit |
+//! | `parking_entry.rt`, `block_ring.rt` | what a ring knows of a place; `BlockRing`: blocks in order, over their bytes and a ring of the kit |
+//! | `byte_ring.rt` | `ByteRing`: bytes in order, copied in at once |
 //! | `passing.rt`, `lending.rt` | how its tail passes the oldest; how a block is read |
 //! | `laws.rt` | that each call keeps the page, and that the oldest go first |
 #![tactic(auto)]
 
 mod block_ring;
+mod byte_ring;
 mod laws;
 mod lending;
 mod parked;

@@ -14,8 +14,7 @@ impl BlockRing {
         let Some(entry) = self.entries.pop_front() else {
             unreachable!()
         };
-        let rest = self.bytes.len() - entry.length;
-        self.bytes.truncate_front(rest);
+        self.bytes.drop_front(entry.length);
         self.passed = self.passed.wrapping_add(entry.length);
         !entry.is_kept
     }

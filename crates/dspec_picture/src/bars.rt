@@ -125,8 +125,8 @@ pub(crate) fn push_bars(
 ) -> Result<(), AllocError> {
     let count = deeds.len() as u64;
     let front = COLUMNS.saturating_mul(row).min(count) as usize;
-    let behind = &deeds[front..];
-    let here = &behind[..behind.len().min(COLUMNS as usize)];
+    let after = &deeds[front..];
+    let here = &after[..after.len().min(COLUMNS as usize)];
     for slot in 0..SLOTS {
         if was_given(slot, deeds) {
             let y = row_top(stride, row).saturating_add(bar_top(slot, deeds));

@@ -63,10 +63,10 @@ pub(crate) fn spoken_look(
     cpu: u32,
     id: SpecId,
     fate: SpeculateFate,
-    behind: &[Deed],
+    after: &[Deed],
 ) -> RecordStyle {
     let mut look = first_look(fate);
-    for deed in behind {
+    for deed in after {
         if matches!(look, RecordStyle::Abandoned) {
             look = emptied_by(cpu, id, deed).unwrap_or(look);
         }

@@ -25,7 +25,7 @@ struct ColumnMark<'a> {
     band: Band,
     column: u64,
     before: &'a [Deed],
-    behind: &'a [Deed],
+    after: &'a [Deed],
 }
 
 impl ColumnMark<'_> {
@@ -154,7 +154,7 @@ impl ColumnMark<'_> {
             Deed::Opened(by, id) if by == cpu => self.numbered(text, "opens", u64::from(id.slot())),
             Deed::Miss(by, slot, _) if by == cpu => self.miss(text, slot),
             Deed::Speculate(by, id, rec, fate) if by == cpu => {
-                let look = spoken_look(cpu, id, fate, self.behind);
+                let look = spoken_look(cpu, id, fate, self.after);
                 self.record(text, self.lane(id), false, look, Some(id), &rec)
             }
             Deed::Commit(by, id, fate) if by == cpu => self.decision(text, "commit", id, fate),
@@ -179,7 +179,7 @@ pub(crate) fn push_band(
             band: *band,
             column: at as u64,
             before: &deeds[..at],
-            behind: &deeds[at + 1..],
+            after: &deeds[at + 1..],
         };
         mark.deed(text, &deeds[at])?;
     }

@@ -6,7 +6,7 @@ ghost use Rattle.dspec_interleaving.specs.Plays.{play_fault};
 
 use crate::room::{CpuBuffers, NO_BUFFERS, room_at};
 use crate::telling::tell_step;
-use crate::words::tell_behind;
+use crate::words::tell_after;
 use dspec_buffer::TraceBuffer;
 use dspec_core::{Onlooker, World, play_shown};
 use dspec_deeds::{Actor, Config, Deed, Turn};
@@ -39,13 +39,13 @@ fn tell_deeds<S: Schema>(
     deeds: &[Deed],
 ) -> Result<(), AllocError> {
     for deed in deeds {
-        tell_behind(text, config, schema, room, header, deed)?;
+        tell_after(text, config, schema, room, header, deed)?;
     }
     Ok(())
 }
 
 /// The deeds after so many.
-fn behind(deeds: &[Deed], count: usize) -> &[Deed] {
+fn after(deeds: &[Deed], count: usize) -> &[Deed] {
     &deeds[count.min(deeds.len())..]
 }
 
@@ -67,8 +67,8 @@ impl<S: Schema, B: TraceBuffer<S>> Onlooker<S, B> for Teller {
         tell_step(&mut self.text, world, actor)
     }
 
-    fn behind(&mut self, world: &World<S, B>) -> Result<(), AllocError> {
-        let deeds = behind(world.deeds(), self.deeds);
+    fn after(&mut self, world: &World<S, B>) -> Result<(), AllocError> {
+        let deeds = after(world.deeds(), self.deeds);
         let (config, schema) = (world.config(), world.schema());
         tell_deeds(
             &mut self.text,

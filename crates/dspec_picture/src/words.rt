@@ -234,7 +234,7 @@ fn tell_refusal<S: Schema>(
 }
 
 /// A deed after what is told.
-pub(crate) fn tell_behind<S: Schema>(
+pub(crate) fn tell_after<S: Schema>(
     text: &mut String,
     config: &Config,
     schema: &S,

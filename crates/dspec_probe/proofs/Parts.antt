@@ -54,16 +54,16 @@ value_number-append start (f ∷ fs) gs (v ∷ vs) us h =
 pub first-free : (start : ℕ) (fs gs : List Field) (ws : List ℕ) → AreFree start (fs ++ gs) ws → AreFree start fs ws
 first-free start fs gs ws free = record { near = omega (arith, free.near, length-append fs gs); below = free.below }
 
-pub behind-free : (start end : ℕ) (fs gs : List Field) (vs old new : List ℕ) → AreFree start (fs ++ gs) old → ArePacked start fs vs old end new
+pub later-free : (start end : ℕ) (fs gs : List Field) (vs old new : List ℕ) → AreFree start (fs ++ gs) old → ArePacked start fs vs old end new
     → number_of_words new < 256 ^ end → AreFree end gs new
-behind-free start end fs gs vs old new free packed below = record {
+later-free start end fs gs vs old new free packed below = record {
   near = subst (λ e. rounded_up e 8 + 8 * length gs ≤ 72) (sym packed.end_is) (omega (arith, free.near, length-append fs gs, fields_end-le start fs));
   below = below;
 }
 
 pub both-packed : (start mid end : ℕ) (fs gs : List Field) (vs us old between new : List ℕ) → IsTrue (fits fs vs) → ArePacked start fs vs old mid between
     → ArePacked mid gs us between end new → ArePacked start (fs ++ gs) (vs ++ us) old end new
-both-packed start mid end fs gs vs us old between new fit first behind = record {
-  end_is = behind.end_is ∙ ap (λ m. fields_end m gs) first.end_is ∙ sym (fields_end-append start fs gs);
-  added = omega (arith, first.added, behind.added, value_number-append start fs gs vs us fit, ap (λ m. value_number m gs us) first.end_is);
+both-packed start mid end fs gs vs us old between new fit first later = record {
+  end_is = later.end_is ∙ ap (λ m. fields_end m gs) first.end_is ∙ sym (fields_end-append start fs gs);
+  added = omega (arith, first.added, later.added, value_number-append start fs gs vs us fit, ap (λ m. value_number m gs us) first.end_is);
 }

@@ -26,10 +26,10 @@ six-few r = omega arith
 
 -- a part has room in the places that the one in front of it left
 pub both-few : (fs gs : List Field) (l m r : ℕ) → length fs + l ≤ r → length gs + m ≤ l → length (fs ++ gs) + m ≤ r
-both-few fs gs l m r first behind = omega (arith, first, behind, length-append fs gs)
+both-few fs gs l m r first after = omega (arith, first, after, length-append fs gs)
 
 pub both-same : (ks ls : List Kind) (fs gs : List Field) → length ks ≡ length fs → length ls ≡ length gs → length (ks ++ ls) ≡ length (fs ++ gs)
-both-same ks ls fs gs first behind = omega (arith, first, behind, length-append ks ls, length-append fs gs)
+both-same ks ls fs gs first after = omega (arith, first, after, length-append ks ls, length-append fs gs)
 
 -- the fields of a record
 pub within-eight : (fs : List Field) (left : ℕ) → length fs + left ≤ 8 → length fs ≤ 8

@@ -4,7 +4,7 @@ ghost use Rattle.dspec_probe.specs.declared.kind.Kind.{Kind, TheVariants.Unsigne
 
 use crate::number_list::NumberList;
 use crate::{FieldList, Kind, Value};
-use dspec_record::laid_out::pack_behind;
+use dspec_record::laid_out::pack_after;
 use std::marker::PhantomData;
 
 /// The places that a record has left, as a type: `Full`, or a `Place` and those after it.
@@ -53,7 +53,7 @@ pub trait Part<R: Room>: Copy {
         ensures { result ≡ length fields_are };
 
     /// Its fields after others.
-    fn fields_behind(others: FieldList) -> FieldList
+    fn fields_after(others: FieldList) -> FieldList
         requires { length others + length fields_are ≤ 8 }
         ensures { result ≡ others ++ fields_are };
 
@@ -63,7 +63,7 @@ pub trait Part<R: Room>: Copy {
         ensures { result ≡ slice_index_or kinds_are place Unsigned };
 
     /// Its numbers after others: they fit its fields, and stand for nothing else.
-    fn numbers_behind(self, others: NumberList) -> NumberList
+    fn numbers_after(self, others: NumberList) -> NumberList
         requires { length others + length fields_are ≤ 8 }
         ensures holds { result ≡ others ++ numbers_of self }
         ensures fits { IsTrue (fits fields_are (numbers_of self)) }
@@ -75,7 +75,7 @@ pub trait Part<R: Room>: Copy {
         ensures { result ≡ values_of numbers.now };
 
     /// Adds it to words that hold nothing from `end` on, each number at its place; answers where the last one ends.
-    fn pack_behind(self, end: usize, words: &mut [u64; 9]) -> usize
+    fn pack_after(self, end: usize, words: &mut [u64; 9]) -> usize
         requires { AreFree end fields_are words.old }
         ensures packed { ArePacked end fields_are (numbers_of self) words.old result words.new }
         ensures fits { IsTrue (fits fields_are (numbers_of self)) }
@@ -112,7 +112,7 @@ impl<R: Room> Part<R> for () {
     }
 
     #[inline(always)]
-    fn fields_behind(others: FieldList) -> FieldList {
+    fn fields_after(others: FieldList) -> FieldList {
         others
     }
 
@@ -122,7 +122,7 @@ impl<R: Room> Part<R> for () {
     }
 
     #[inline(always)]
-    fn numbers_behind(self, others: NumberList) -> NumberList {
+    fn numbers_after(self, others: NumberList) -> NumberList {
         others
     }
 
@@ -135,7 +135,7 @@ impl<R: Room> Part<R> for () {
     }
 
     #[inline(always)]
-    fn pack_behind(self, end: usize, _words: &mut [u64; 9]) -> usize {
+    fn pack_after(self, end: usize, _words: &mut [u64; 9]) -> usize {
         end
     }
 }
@@ -164,7 +164,7 @@ impl<V: Value, R: Room> Part<Place<R>> for V {
     }
 
     #[inline(always)]
-    fn fields_behind(others: FieldList) -> FieldList {
+    fn fields_after(others: FieldList) -> FieldList {
         others.with(V::field())
     }
 
@@ -177,7 +177,7 @@ impl<V: Value, R: Room> Part<Place<R>> for V {
     }
 
     #[inline(always)]
-    fn numbers_behind(self, others: NumberList) -> NumberList {
+    fn numbers_after(self, others: NumberList) -> NumberList {
         others.with(self.number())
     }
 
@@ -190,8 +190,8 @@ impl<V: Value, R: Room> Part<Place<R>> for V {
     }
 
     #[inline(always)]
-    fn pack_behind(self, end: usize, words: &mut [u64; 9]) -> usize {
-        pack_behind(V::field(), self.number(), end, words)
+    fn pack_after(self, end: usize, words: &mut [u64; 9]) -> usize {
+        pack_after(V::field(), self.number(), end, words)
     }
 }
 
@@ -218,8 +218,8 @@ impl<R: Room, V: Part<R>, W: Part<V::Left>> Part<R> for (V, W) {
     }
 
     #[inline(always)]
-    fn fields_behind(others: FieldList) -> FieldList {
-        W::fields_behind(V::fields_behind(others))
+    fn fields_after(others: FieldList) -> FieldList {
+        W::fields_after(V::fields_after(others))
     }
 
     #[inline(always)]
@@ -231,9 +231,9 @@ impl<R: Room, V: Part<R>, W: Part<V::Left>> Part<R> for (V, W) {
     }
 
     #[inline(always)]
-    fn numbers_behind(self, others: NumberList) -> NumberList {
-        let (first, behind) = self;
-        behind.numbers_behind(first.numbers_behind(others))
+    fn numbers_after(self, others: NumberList) -> NumberList {
+        let (first, after) = self;
+        after.numbers_after(first.numbers_after(others))
     }
 
     #[inline(always)]
@@ -242,14 +242,14 @@ impl<R: Room, V: Part<R>, W: Part<V::Left>> Part<R> for (V, W) {
             return None;
         }
         let first = V::of_numbers(&numbers[..V::count()])?;
-        let behind = W::of_numbers(&numbers[V::count()..])?;
-        Some((first, behind))
+        let after = W::of_numbers(&numbers[V::count()..])?;
+        Some((first, after))
     }
 
     #[inline(always)]
-    fn pack_behind(self, end: usize, words: &mut [u64; 9]) -> usize {
-        let (first, behind) = self;
-        let next = first.pack_behind(end, words);
-        behind.pack_behind(next, words)
+    fn pack_after(self, end: usize, words: &mut [u64; 9]) -> usize {
+        let (first, after) = self;
+        let next = first.pack_after(end, words);
+        after.pack_after(next, words)
     }
 }

@@ -288,8 +288,8 @@ impl<R: Room> Part<Place<R>> for Text<1> {
     }
 
     #[inline(always)]
-    fn fields_behind(others: FieldList) -> FieldList {
-        <(First, ()) as Part<Place<R>>>::fields_behind(others)
+    fn fields_after(others: FieldList) -> FieldList {
+        <(First, ()) as Part<Place<R>>>::fields_after(others)
     }
 
     #[inline(always)]
@@ -298,9 +298,9 @@ impl<R: Room> Part<Place<R>> for Text<1> {
     }
 
     #[inline(always)]
-    fn numbers_behind(self, others: NumberList) -> NumberList {
+    fn numbers_after(self, others: NumberList) -> NumberList {
         let [a] = self.words;
-        <(First, ()) as Part<Place<R>>>::numbers_behind((First(a), ()), others)
+        <(First, ()) as Part<Place<R>>>::numbers_after((First(a), ()), others)
     }
 
     #[inline(always)]
@@ -309,9 +309,9 @@ impl<R: Room> Part<Place<R>> for Text<1> {
     }
 
     #[inline(always)]
-    fn pack_behind(self, end: usize, words: &mut [u64; 9]) -> usize {
+    fn pack_after(self, end: usize, words: &mut [u64; 9]) -> usize {
         let [a] = self.words;
-        <(First, ()) as Part<Place<R>>>::pack_behind((First(a), ()), end, words)
+        <(First, ()) as Part<Place<R>>>::pack_after((First(a), ()), end, words)
     }
 }
 
@@ -341,8 +341,8 @@ impl<R: Room> Part<Place<Place<R>>> for Text<2> {
     }
 
     #[inline(always)]
-    fn fields_behind(others: FieldList) -> FieldList {
-        <(First, (Next, ())) as Part<Place<Place<R>>>>::fields_behind(others)
+    fn fields_after(others: FieldList) -> FieldList {
+        <(First, (Next, ())) as Part<Place<Place<R>>>>::fields_after(others)
     }
 
     #[inline(always)]
@@ -351,9 +351,9 @@ impl<R: Room> Part<Place<Place<R>>> for Text<2> {
     }
 
     #[inline(always)]
-    fn numbers_behind(self, others: NumberList) -> NumberList {
+    fn numbers_after(self, others: NumberList) -> NumberList {
         let [a, b] = self.words;
-        <(First, (Next, ())) as Part<Place<Place<R>>>>::numbers_behind(
+        <(First, (Next, ())) as Part<Place<Place<R>>>>::numbers_after(
             (First(a), (Next(b), ())),
             others,
         )
@@ -365,9 +365,9 @@ impl<R: Room> Part<Place<Place<R>>> for Text<2> {
     }
 
     #[inline(always)]
-    fn pack_behind(self, end: usize, words: &mut [u64; 9]) -> usize {
+    fn pack_after(self, end: usize, words: &mut [u64; 9]) -> usize {
         let [a, b] = self.words;
-        <(First, (Next, ())) as Part<Place<Place<R>>>>::pack_behind(
+        <(First, (Next, ())) as Part<Place<Place<R>>>>::pack_after(
             (First(a), (Next(b), ())),
             end,
             words,
@@ -401,8 +401,8 @@ impl<R: Room> Part<Place<Place<Place<R>>>> for Text<3> {
     }
 
     #[inline(always)]
-    fn fields_behind(others: FieldList) -> FieldList {
-        <(First, (Next, (Next, ()))) as Part<Place<Place<Place<R>>>>>::fields_behind(others)
+    fn fields_after(others: FieldList) -> FieldList {
+        <(First, (Next, (Next, ()))) as Part<Place<Place<Place<R>>>>>::fields_after(others)
     }
 
     #[inline(always)]
@@ -411,9 +411,9 @@ impl<R: Room> Part<Place<Place<Place<R>>>> for Text<3> {
     }
 
     #[inline(always)]
-    fn numbers_behind(self, others: NumberList) -> NumberList {
+    fn numbers_after(self, others: NumberList) -> NumberList {
         let [a, b, c] = self.words;
-        <(First, (Next, (Next, ()))) as Part<Place<Place<Place<R>>>>>::numbers_behind(
+        <(First, (Next, (Next, ()))) as Part<Place<Place<Place<R>>>>>::numbers_after(
             (First(a), (Next(b), (Next(c), ()))),
             others,
         )
@@ -425,9 +425,9 @@ impl<R: Room> Part<Place<Place<Place<R>>>> for Text<3> {
     }
 
     #[inline(always)]
-    fn pack_behind(self, end: usize, words: &mut [u64; 9]) -> usize {
+    fn pack_after(self, end: usize, words: &mut [u64; 9]) -> usize {
         let [a, b, c] = self.words;
-        <(First, (Next, (Next, ()))) as Part<Place<Place<Place<R>>>>>::pack_behind(
+        <(First, (Next, (Next, ()))) as Part<Place<Place<Place<R>>>>>::pack_after(
             (First(a), (Next(b), (Next(c), ()))),
             end,
             words,
@@ -461,8 +461,8 @@ impl<R: Room> Part<Place<Place<Place<Place<R>>>>> for Text<4> {
     }
 
     #[inline(always)]
-    fn fields_behind(others: FieldList) -> FieldList {
-        <(First, (Next, (Next, (Next, ())))) as Part<Place<Place<Place<Place<R>>>>>>::fields_behind(
+    fn fields_after(others: FieldList) -> FieldList {
+        <(First, (Next, (Next, (Next, ())))) as Part<Place<Place<Place<Place<R>>>>>>::fields_after(
             others,
         )
     }
@@ -473,11 +473,12 @@ impl<R: Room> Part<Place<Place<Place<Place<R>>>>> for Text<4> {
     }
 
     #[inline(always)]
-    fn numbers_behind(self, others: NumberList) -> NumberList {
+    fn numbers_after(self, others: NumberList) -> NumberList {
         let [a, b, c, d] = self.words;
-        <(First, (Next, (Next, (Next, ())))) as Part<
-            Place<Place<Place<Place<R>>>>,
-        >>::numbers_behind((First(a), (Next(b), (Next(c), (Next(d), ())))), others)
+        <(First, (Next, (Next, (Next, ())))) as Part<Place<Place<Place<Place<R>>>>>>::numbers_after(
+            (First(a), (Next(b), (Next(c), (Next(d), ())))),
+            others,
+        )
     }
 
     #[inline(always)]
@@ -486,9 +487,9 @@ impl<R: Room> Part<Place<Place<Place<Place<R>>>>> for Text<4> {
     }
 
     #[inline(always)]
-    fn pack_behind(self, end: usize, words: &mut [u64; 9]) -> usize {
+    fn pack_after(self, end: usize, words: &mut [u64; 9]) -> usize {
         let [a, b, c, d] = self.words;
-        <(First, (Next, (Next, (Next, ())))) as Part<Place<Place<Place<Place<R>>>>>>::pack_behind(
+        <(First, (Next, (Next, (Next, ())))) as Part<Place<Place<Place<Place<R>>>>>>::pack_after(
             (First(a), (Next(b), (Next(c), (Next(d), ())))),
             end,
             words,
@@ -522,10 +523,10 @@ impl<R: Room> Part<Place<Place<Place<Place<Place<R>>>>>> for Text<5> {
     }
 
     #[inline(always)]
-    fn fields_behind(others: FieldList) -> FieldList {
+    fn fields_after(others: FieldList) -> FieldList {
         <(First, (Next, (Next, (Next, (Next, ()))))) as Part<
             Place<Place<Place<Place<Place<R>>>>>,
-        >>::fields_behind(others)
+        >>::fields_after(others)
     }
 
     #[inline(always)]
@@ -536,11 +537,11 @@ impl<R: Room> Part<Place<Place<Place<Place<Place<R>>>>>> for Text<5> {
     }
 
     #[inline(always)]
-    fn numbers_behind(self, others: NumberList) -> NumberList {
+    fn numbers_after(self, others: NumberList) -> NumberList {
         let [a, b, c, d, e] = self.words;
         <(First, (Next, (Next, (Next, (Next, ()))))) as Part<
             Place<Place<Place<Place<Place<R>>>>>,
-        >>::numbers_behind(
+        >>::numbers_after(
             (First(a), (Next(b), (Next(c), (Next(d), (Next(e), ()))))),
             others,
         )
@@ -552,11 +553,11 @@ impl<R: Room> Part<Place<Place<Place<Place<Place<R>>>>>> for Text<5> {
     }
 
     #[inline(always)]
-    fn pack_behind(self, end: usize, words: &mut [u64; 9]) -> usize {
+    fn pack_after(self, end: usize, words: &mut [u64; 9]) -> usize {
         let [a, b, c, d, e] = self.words;
         <(First, (Next, (Next, (Next, (Next, ()))))) as Part<
             Place<Place<Place<Place<Place<R>>>>>,
-        >>::pack_behind(
+        >>::pack_after(
             (First(a), (Next(b), (Next(c), (Next(d), (Next(e), ()))))),
             end,
             words,
@@ -590,10 +591,10 @@ impl<R: Room> Part<Place<Place<Place<Place<Place<Place<R>>>>>>> for Text<6> {
     }
 
     #[inline(always)]
-    fn fields_behind(others: FieldList) -> FieldList {
+    fn fields_after(others: FieldList) -> FieldList {
         <(First, (Next, (Next, (Next, (Next, (Next, ())))))) as Part<
             Place<Place<Place<Place<Place<Place<R>>>>>>,
-        >>::fields_behind(others)
+        >>::fields_after(others)
     }
 
     #[inline(always)]
@@ -604,11 +605,11 @@ impl<R: Room> Part<Place<Place<Place<Place<Place<Place<R>>>>>>> for Text<6> {
     }
 
     #[inline(always)]
-    fn numbers_behind(self, others: NumberList) -> NumberList {
+    fn numbers_after(self, others: NumberList) -> NumberList {
         let [a, b, c, d, e, f] = self.words;
         <(First, (Next, (Next, (Next, (Next, (Next, ())))))) as Part<
             Place<Place<Place<Place<Place<Place<R>>>>>>,
-        >>::numbers_behind(
+        >>::numbers_after(
             (
                 First(a),
                 (Next(b), (Next(c), (Next(d), (Next(e), (Next(f), ()))))),
@@ -623,11 +624,11 @@ impl<R: Room> Part<Place<Place<Place<Place<Place<Place<R>>>>>>> for Text<6> {
     }
 
     #[inline(always)]
-    fn pack_behind(self, end: usize, words: &mut [u64; 9]) -> usize {
+    fn pack_after(self, end: usize, words: &mut [u64; 9]) -> usize {
         let [a, b, c, d, e, f] = self.words;
         <(First, (Next, (Next, (Next, (Next, (Next, ())))))) as Part<
             Place<Place<Place<Place<Place<Place<R>>>>>>,
-        >>::pack_behind(
+        >>::pack_after(
             (
                 First(a),
                 (Next(b), (Next(c), (Next(d), (Next(e), (Next(f), ()))))),

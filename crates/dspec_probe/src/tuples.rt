@@ -44,7 +44,7 @@ impl<T: Tuple> Fields for T {
 
     #[inline(always)]
     fn fields() -> FieldList {
-        T::Parts::fields_behind(FieldList::new())
+        T::Parts::fields_after(FieldList::new())
     }
 
     fn kinds() -> [Kind; 8] {
@@ -62,13 +62,13 @@ impl<T: Tuple> Fields for T {
 
     #[inline(always)]
     fn rec(self, epid: u32, stamp: u64) -> Rec {
-        let numbers = self.parts().numbers_behind(NumberList::new());
+        let numbers = self.parts().numbers_after(NumberList::new());
         Rec::stamped(epid, stamp, numbers.as_slice()).unwrap()
     }
 
     #[inline(always)]
     fn pack(self, words: &mut [u64; 9]) -> usize {
-        self.parts().pack_behind(4, words)
+        self.parts().pack_after(4, words)
     }
 
     #[inline(always)]

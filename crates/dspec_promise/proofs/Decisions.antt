@@ -13,8 +13,8 @@ some_append test [] ys = refl
 some_append test (x ∷ xs) ys = grind (arith, nat_tests, some_append test xs ys)
 
 -- what was done before is still there
-some_behind : (test : Did → Bool) (c : ℕ) (d : Deed) (h : List Deed) → some test (did c h) ≡ true → some test (did c (d ∷ h)) ≡ true
-some_behind test c d h t = some_append test (done_by c d) (did c h) ∙ (ap (λ b. some test (done_by c d) || b) t ∙ or_true (some test (done_by c d)))
+some_after : (test : Did → Bool) (c : ℕ) (d : Deed) (h : List Deed) → some test (did c h) ≡ true → some test (did c (d ∷ h)) ≡ true
+some_after test c d h t = some_append test (done_by c d) (did c h) ∙ (ap (λ b. some test (done_by c d) || b) t ∙ or_true (some test (done_by c d)))
 
 -- the page's test of a decision is the list's
 commit_same : (a : ℕ) (id j : Speculation) (f : DecideFate) → is_commit_of id (emptied commit j f) ≡ told.commits id (Commit a j f)
@@ -29,7 +29,7 @@ pub committed_by : (k : Config) (id : Speculation) (h : List Deed) → HasAuthor
 committed_by k id [] a t = absurd (true≢false (sym t))
 committed_by k id (d ∷ h) a t = ⊎_elim
     (λ (now : told.commits id d ≡ true). first d a now)
-    (λ (before : told.has_commit id h ≡ true). let was = committed_by k id h a.0 before in (was.0, was.1, some_behind (is_commit_of id) was.0 d h was.2))
+    (λ (before : told.has_commit id h ≡ true). let was = committed_by k id h a.0 before in (was.0, was.1, some_after (is_commit_of id) was.0 d h was.2))
     (or_tells (told.commits id d) (told.has_commit id h) t)
   where
     first : (d : Deed) → HasAuthors k (d ∷ h) → told.commits id d ≡ true → Happened k.cpus (all_did (d ∷ h)) (is_commit_of id)
@@ -40,7 +40,7 @@ pub discarded_by : (k : Config) (id : Speculation) (h : List Deed) → HasAuthor
 discarded_by k id [] a t = absurd (true≢false (sym t))
 discarded_by k id (d ∷ h) a t = ⊎_elim
     (λ (now : told.discards id d ≡ true). first d a now)
-    (λ (before : told.has_discard id h ≡ true). let was = discarded_by k id h a.0 before in (was.0, was.1, some_behind (is_discard_of id) was.0 d h was.2))
+    (λ (before : told.has_discard id h ≡ true). let was = discarded_by k id h a.0 before in (was.0, was.1, some_after (is_discard_of id) was.0 d h was.2))
     (or_tells (told.discards id d) (told.has_discard id h) t)
   where
     first : (d : Deed) → HasAuthors k (d ∷ h) → told.discards id d ≡ true → Happened k.cpus (all_did (d ∷ h)) (is_discard_of id)

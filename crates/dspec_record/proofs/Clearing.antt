@@ -3,7 +3,7 @@ use Rattle.std.proofs.Common.{◌≡◌, ◌≤◌, ◌<◌, ◌+◌, ◌-◌, �
 use Rattle.std.proofs.Math.Seq.{take-append-add}
 use Rattle.std.proofs.lemmas.Bool.Decides.{nat_tests}
 use Rattle.std.proofs.lemmas.List.{append_assoc, length-append, length-take-le, length-drop, get_or-append_right, get_or-replicate, get_or-take, get_or-drop, take-take, drop-take, take-append-drop}
-use Rattle.dspec_record.specs.Words.{width, rounded_up, little_endian, gap, IsClearBehind, rounded_up-ge}
+use Rattle.dspec_record.specs.Words.{width, rounded_up, little_endian, gap, IsClearAfter, rounded_up-ge}
 use Rattle.dspec_record.specs.declared.field.Field.{Field, TheVariants.One, TheVariants.Two, TheVariants.Four, TheVariants.Eight}
 use Rattle.dspec_record.proofs.LittleEndian.{take-little_endian}
 
@@ -24,7 +24,7 @@ zeros (suc n) (x ∷ xs) long each =
     λ i. first i ∷ rest i
 
 -- a part of what is clear
-pub clear-part : (end n : ℕ) (xs : List ℕ) → end + n ≤ length xs → end + n ≤ rounded_up end 8 → IsClearBehind end xs → take n (drop end xs) ≡ replicate n 0
+pub clear-part : (end n : ℕ) (xs : List ℕ) → end + n ≤ length xs → end + n ≤ rounded_up end 8 → IsClearAfter end xs → take n (drop end xs) ≡ replicate n 0
 clear-part end n xs long near clear =
     zeros n (drop end xs) (omega (arith, length-drop end xs)) (λ k below. get_or-drop end xs k 0 ∙ clear (end + k) (omega arith) (omega arith))
 
@@ -48,7 +48,7 @@ place-near Eight end place at = omega arith
 
 -- the gap before the value is clear, and the value stands after it
 pub written-put : (f : Field) (v end place : ℕ) (out new : List ℕ) → take (place + 8) new ≡ take place out ++ little_endian 8 v → place ≡ rounded_up end (width f)
-    → place + 8 ≤ length out → IsClearBehind end out → take (place + width f) new ≡ take end out ++ (gap end (width f) ++ little_endian (width f) v)
+    → place + 8 ≤ length out → IsClearAfter end out → take (place + width f) new ≡ take end out ++ (gap end (width f) ++ little_endian (width f) v)
 written-put f v end place out new put at room clear =
     let bytes : List ℕ = little_endian (width f) v in
     let few : width f ≤ 8 = width-le f in
@@ -75,6 +75,6 @@ ends-within Eight end place k at near = omega arith
 
 -- and what is after it is clear
 pub written-clear : (f : Field) (v end place : ℕ) (out new : List ℕ) → take (place + 8) new ≡ take place out ++ little_endian 8 v → v < 256 ^ width f → place ≡ rounded_up end (width f)
-    → place + 8 ≤ length out → IsClearBehind (place + width f) new
+    → place + 8 ≤ length out → IsClearAfter (place + width f) new
 written-clear f v end place out new put holds at room =
     grind (arith, nat_tests, width-le, ends-within, length-append, length-take-le, get_or-take, eight_bytes, append_assoc, get_or-append_right, get_or-replicate)

@@ -62,10 +62,10 @@ cuts-packed start (f ∷ fs) (v ∷ vs) n fit is =
     let to_place : start + hole ≡ place = omega (arith, rounded_up-ge f start) in
     let here : n / 256 ^ place ≡ rest * 256 ^ w + v =
     sym (div-more start hole place n to_place) ∙ ap (λ m. m / 256 ^ hole) is ∙ shifted-back hole (rest * 256 ^ w + v) in
-    let behind : n / 256 ^ next ≡ rest =
+    let later : n / 256 ^ next ≡ rest =
     sym (div-more place w next n refl) ∙ ap (λ m. m / 256 ^ w) here ∙ div-mul-add rest (256 ^ w) v holds in
     let value : n / 256 ^ place % 256 ^ w ≡ v = ap (λ m. m % 256 ^ w) here ∙ mod-mul-add rest (256 ^ w) v holds in
-    let values : cuts next fs n ≡ vs = cuts-packed next fs vs n parts.1 behind in
+    let values : cuts next fs n ≡ vs = cuts-packed next fs vs n parts.1 later in
     λ i. value i ∷ values i
 
 -- its bytes are the text of the fields

@@ -112,12 +112,12 @@ masked start (f ∷ fs) n =
     let rest : ℕ = packed next fs (map limit fs) in
     let to_place : start + hole ≡ place = omega (arith, rounded_up-ge f start) in
     let here : n / 256 ^ start / 256 ^ hole ≡ n / 256 ^ place = div-more start hole place n to_place in
-    let behind : n / 256 ^ place / 256 ^ w ≡ n / 256 ^ next = div-more place w next n refl in
+    let later : n / 256 ^ place / 256 ^ w ≡ n / 256 ^ next = div-more place w next n refl in
     let above : AboveMask (256 ^ hole) = and-above hole in
     above (n / 256 ^ start) (rest * 256 ^ w + limit f)
     ∙ ap (λ x. bit_and x (rest * 256 ^ w + limit f) * 256 ^ hole) here
     ∙ ap (λ x. x * 256 ^ hole) (and-field w (n / 256 ^ place) rest)
-    ∙ ap (λ x. (bit_and x rest * 256 ^ w + n / 256 ^ place % 256 ^ w) * 256 ^ hole) behind
+    ∙ ap (λ x. (bit_and x rest * 256 ^ w + n / 256 ^ place % 256 ^ w) * 256 ^ hole) later
     ∙ ap (λ x. (x * 256 ^ w + n / 256 ^ place % 256 ^ w) * 256 ^ hole) (masked next fs n)
 
 limits_fit : (fs : List Field) → IsTrue (fits fs (map limit fs))

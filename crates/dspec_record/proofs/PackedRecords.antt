@@ -86,8 +86,8 @@ text-of_stamped : (epid stamp : ℕ) (fs : List Field) (ws out : List ℕ) → 0
     → take (layout header.Two fs).size out ≡ record_text header.Two fs (packed_record epid stamp fs ws)
 text-of_stamped epid stamp fs [] out some small fits stamp_fits clean room put = absurd (omega arith)
 text-of_stamped epid stamp fs (w ∷ rest) out some small fits stamp_fits clean room put =
-    let behind : List ℕ = little_endian 8 (w + stamp / 2 ^ 32) ++ bytes_of_words rest in
-    begins out (little_endian 8 (epid + 2 ^ 32 * (stamp % 2 ^ 32)) ++ behind) (record_text header.Two fs (packed_record epid stamp fs (w ∷ rest))) (8 + 8 * length (w ∷ rest))
+    let after : List ℕ = little_endian 8 (w + stamp / 2 ^ 32) ++ bytes_of_words rest in
+    begins out (little_endian 8 (epid + 2 ^ 32 * (stamp % 2 ^ 32)) ++ after) (record_text header.Two fs (packed_record epid stamp fs (w ∷ rest))) (8 + 8 * length (w ∷ rest))
     (layout header.Two fs).size put (omega (arith, room, size-stamped fs)) (stored-stamped-words epid stamp fs w rest small fits stamp_fits clean)
 
 -- the same under a header that is one of the two

@@ -20,11 +20,11 @@ value_number-packed start (f ∷ fs) (v ∷ vs) =
     let rest : ℕ = packed next fs vs in
     let here : ℕ = rest * 256 ^ w + v in
     let back : 256 ^ hole * 256 ^ start ≡ 256 ^ place = pow-add256 hole start place (omega (arith, rounded_up-ge f start)) in
-    let behind : 256 ^ w * 256 ^ place ≡ 256 ^ next = pow-add256 w place next (omega arith) in
+    let later : 256 ^ w * 256 ^ place ≡ 256 ^ next = pow-add256 w place next (omega arith) in
     let turned : v * 256 ^ place + rest * 256 ^ next ≡ rest * 256 ^ next + v * 256 ^ place = omega arith in
     ap (λ n. v * 256 ^ place + n) (value_number-packed next fs vs)
     ∙ turned
-    ∙ ap (λ p. rest * p + v * 256 ^ place) (sym behind)
+    ∙ ap (λ p. rest * p + v * 256 ^ place) (sym later)
     ∙ ap (λ n. n + v * 256 ^ place) (sym (mul_assoc rest (256 ^ w) (256 ^ place)))
     ∙ sym (add-mul (rest * 256 ^ w) v (256 ^ place))
     ∙ ap (λ p. here * p) (sym back)

@@ -19,13 +19,13 @@ pub record IsReading (h : Header) (all : List Field) (epid stamp : ℕ) (text : 
 -- the header at the front, put together of its EPID and of what is after it
 header-front : (h : Header) (epid stamp : ℕ) (vs text : List ℕ) → 4 ≤ fields_start h → take 4 text ≡ little_endian 4 epid
     → drop 4 (take (fields_start h) text) ≡ stamp_text h stamp → header_text h (record { epid = epid; stamp = stamp; values = vs }) ≡ take (fields_start h) text
-header-front h epid stamp vs text low front behind = grind (arith, nat_tests, take-take, take-append-drop)
+header-front h epid stamp vs text low front later = grind (arith, nat_tests, take-take, take-append-drop)
 
 pub IsReading-start : (h : Header) (fs : List Field) (epid stamp : ℕ) (text : List ℕ) → length fs ≤ 8 → length text ≡ (layout h fs).size → take 4 text ≡ little_endian 4 epid
     → IsTrue (stamp_fits h stamp) → drop 4 (take (fields_start h) text) ≡ stamp_text h stamp → IsReading h fs epid stamp text (fields_start h) [] 0 fs
-IsReading-start h fs epid stamp text few long front stamp_fit behind = record {
+IsReading-start h fs epid stamp text few long front stamp_fit later = record {
   stamp_fit = stamp_fit;
-  so_far = λ vs. ap (λ t. t ++ fields_text (fields_start h) fs vs) (header-front h epid stamp vs text (fields_start-ge h) front behind);
+  so_far = λ vs. ap (λ t. t ++ fields_text (fields_start h) fs vs) (header-front h epid stamp vs text (fields_start-ge h) front later);
   fit = λ vs. refl;
   still = λ r fit is. (
     fit,

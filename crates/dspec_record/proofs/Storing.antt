@@ -29,12 +29,12 @@ size-from_four : (fs : List Field) → (layout header.One fs).size ≡ 4 + ((lay
 size-from_four fs = omega (arith, fields_end-ge 4 fs, rounded_up-ge Four (fields_end 4 fs))
 
 -- what is taken of four bytes and others after them
-take-behind_four : (size : ℕ) (x : ℕ) (t : List ℕ) → size ≡ 4 + (size - 4) → take size (little_endian 4 x ++ t) ≡ little_endian 4 x ++ take (size - 4) t
-take-behind_four size x t is =
+take-after_four : (size : ℕ) (x : ℕ) (t : List ℕ) → size ≡ 4 + (size - 4) → take size (little_endian 4 x ++ t) ≡ little_endian 4 x ++ take (size - 4) t
+take-after_four size x t is =
     ap (λ k. take k (little_endian 4 x ++ t)) is ∙ take-append-add (little_endian 4 x) t (size - 4)
 
 clean-parts : (fs : List Field) (ws : List ℕ) (left : ℕ) → 8 * length ws ≡ 4 + left → IsClean fs ws → CleanParts fs ws left
-clean-parts fs ws left count clean = grind (arith, nat_tests, little_endian-append, take-behind_four, size-from_four)
+clean-parts fs ws left count clean = grind (arith, nat_tests, little_endian-append, take-after_four, size-from_four)
 
 zero-low : (n : ℕ) → little_endian 4 n ≡ little_endian 4 0 → n % 2 ^ 32 ≡ 0
 zero-low n is = grind (arith, nat_tests)
@@ -66,7 +66,7 @@ first-stored fs w first rest small fits clean =
     ∙ ap (λ k. little_endian k (all / 256 ^ 4 * 256 ^ 4 + first)) count
     ∙ little_endian-parts 4 left (all / 256 ^ 4) first fits in
     ap (take size) bytes
-    ∙ take-behind_four size first (little_endian left (all / 256 ^ 4)) (size-from_four fs)
+    ∙ take-after_four size first (little_endian left (all / 256 ^ 4)) (size-from_four fs)
     ∙ ap (λ t. little_endian 4 first ++ t) parts.fields
 
 -- the first word is stored with the EPID
@@ -85,13 +85,13 @@ stored-stamped epid stamp fs w rest small fits stamp_fits clean =
     let high : ℕ = stamp / 2 ^ 32 in
     let values : List ℕ = cuts 4 fs (number_of_words (w ∷ rest)) in
     let first : ℕ = epid + 2 ^ 32 * low in
-    let behind : List ℕ = little_endian 8 (w + high) ++ little_endian (8 * length rest) (number_of_words rest) in
+    let after : List ℕ = little_endian 8 (w + high) ++ little_endian (8 * length rest) (number_of_words rest) in
     let count : size + 8 ≡ 8 + size = omega arith in
     let turned : first ≡ low * 256 ^ 4 + epid = omega arith in
     let header_word : little_endian 8 first ≡ little_endian 4 epid ++ little_endian 4 low =
     ap (little_endian 8) turned ∙ little_endian-parts 4 4 low epid fits in
-    ap (λ k. take k (little_endian 8 first ++ behind)) count
-    ∙ take-append-add (little_endian 8 first) behind size
+    ap (λ k. take k (little_endian 8 first ++ after)) count
+    ∙ take-append-add (little_endian 8 first) after size
     ∙ ap (λ t. little_endian 8 first ++ t) (first-stored fs w high rest small (omega arith) clean)
     ∙ ap (λ t. t ++ (little_endian 4 high ++ fields_text 4 fs values)) header_word
     ∙ ap (λ t. (little_endian 4 epid ++ little_endian 4 low) ++ (little_endian 4 high ++ t)) (sym (moved fs values))

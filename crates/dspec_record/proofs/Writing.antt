@@ -1,8 +1,8 @@
 -- A record's text while it is written.
 use Rattle.std.proofs.Common.{◌≡◌, ◌≤◌, ◌-◌, ◌++◌, ◌+◌, ℕ, IsTrue, List, [], ◌∷◌, length, take, drop, replicate, refl, sym, ◌∙◌, ap, arith}
 use Rattle.std.proofs.lemmas.{Bool.Decides.nat_tests, List.append_assoc}
-use Rattle.dspec_record.specs.Words.{Record, width, rounded_up, after, fields_start, fields_end, layout, little_endian, gap, header_text, fields_text, record_text, fits, IsClearBehind}
-use Rattle.dspec_record.specs.Words.{rounded_up-ge, fields_end-ge, layout-IsShape}
+use Rattle.dspec_record.specs.Words.{Record, width, rounded_up, after, fields_start, fields_end, layout, little_endian, gap, header_text, fields_text, record_text, fits, IsClearAfter, rounded_up-ge}
+use Rattle.dspec_record.specs.Words.{fields_end-ge, layout-IsShape}
 use Rattle.dspec_record.specs.declared.{field.Field.Field, field.Field.TheVariants.Four, header.Header.Header}
 use Rattle.dspec_record.proofs.Clearing.{clear-part, take-add}
 
@@ -13,10 +13,10 @@ pub record IsWriting (text : List ℕ) (size end : ℕ) (out : List ℕ) (fs : L
   pub short : size ≤ 128
   pub room : size + 8 ≤ length out
   pub fit : IsTrue (fits fs vs)
-  pub clear : IsClearBehind end out
+  pub clear : IsClearAfter end out
 
 pub IsWriting-start : (h : Header) (fs : List Field) (r : Record) (out : List ℕ) → length fs ≤ 8 → IsTrue (fits fs r.values) → take (fields_start h) out ≡ header_text h r
-    → (layout h fs).size + 8 ≤ length out → IsClearBehind (fields_start h) out → IsWriting (record_text h fs r) (layout h fs).size (fields_start h) out fs r.values
+    → (layout h fs).size + 8 ≤ length out → IsClearAfter (fields_start h) out → IsWriting (record_text h fs r) (layout h fs).size (fields_start h) out fs r.values
 IsWriting-start h fs r out few fit header room clear =
     let shape = layout-IsShape h fs few in
     record {
@@ -45,7 +45,7 @@ regroup a b c d = simp append_assoc
 -- a value is written after the gap before it
 pub IsWriting-next : (text : List ℕ) (size end : ℕ) (out out' : List ℕ) (f : Field) (fs : List Field) (v : ℕ) (vs : List ℕ) → IsWriting text size end out (f ∷ fs) (v ∷ vs)
     → length out' ≡ length out → take (after end (width f) (width f)) out' ≡ take end out ++ (gap end (width f) ++ little_endian (width f) v)
-    → IsClearBehind (after end (width f) (width f)) out' → IsWriting text size (after end (width f) (width f)) out' fs vs
+    → IsClearAfter (after end (width f) (width f)) out' → IsWriting text size (after end (width f) (width f)) out' fs vs
 IsWriting-next text size end out out' f fs v vs w same put clear = grind (arith, nat_tests, regroup)
 
 -- with the zeros after the last field the text is whole

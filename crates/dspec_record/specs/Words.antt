@@ -16,4 +16,4 @@ pub use Rattle.dspec_record.specs.Reading.{Answers, BeginsWith, front_epid, HasN
 pub use Rattle.dspec_record.specs.Record.{Record}
 pub use Rattle.dspec_record.specs.RecordText.{fields_text, fits, gap, header_text, IsRead, little_endian, record_text, stamp_fits, stamp_text}
 pub use Rattle.dspec_record.specs.Schemas.{default_fields, enabled, enabling_of, FieldTable, table_accepts, table_shape, table_text, within_limit}
-pub use Rattle.dspec_record.specs.Writing.{IsClearBehind}
+pub use Rattle.dspec_record.specs.Writing.{IsClearAfter}

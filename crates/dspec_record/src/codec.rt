@@ -1,7 +1,7 @@
 ghost use Rattle.std.specs.Prelude.{◌≡◌, ◌≢◌, ◌≤◌, ◌<◌, ◌+◌, ◌%◌, ◌++◌, ◌^◌, ◌↔◌, ℕ, List, ◌⊎◌, nat_le, IsTrue, IfSome, IfNone, IfOk, IfErr, length, map, take, drop, replicate};
 ghost use Rattle.dspec_record.specs.{Layout.width, Layout.limit, Layout.rounded_up, Layout.after, Layout.field_places, Layout.fields_start, Layout.layout, Reading.front_epid, Record.Record};
 ghost use Rattle.dspec_record.specs.{RecordText.little_endian, RecordText.gap, RecordText.stamp_text, RecordText.header_text, RecordText.record_text, RecordText.stamp_fits, RecordText.fits};
-ghost use Rattle.dspec_record.specs.{RecordText.IsRead, Writing.IsClearBehind};
+ghost use Rattle.dspec_record.specs.{RecordText.IsRead, Writing.IsClearAfter};
 
 use crate::laid_out::put_word;
 use crate::{Field, Header, ReadKind, Rec, Recorded};
@@ -97,7 +97,7 @@ pub(crate) fn put_header<R: Recorded>(header: Header, rec: R, out: &mut [u8]) ->
     requires room { fields_start header + 4 ≤ length out.old }
     ensures end { result ≡ fields_start header }
     ensures put { take (fields_start header) out.new ≡ header_text header (R.as_record rec) }
-    ensures clear { IsClearBehind (fields_start header) out.new }
+    ensures clear { IsClearAfter (fields_start header) out.new }
 {
     let epid = u64::from(rec.epid());
     match header {
@@ -121,11 +121,11 @@ fn put_field(field: Field, value: u64, _end: usize, place: usize, out: &mut [u8]
     requires holds { value < 256 ^ width field }
     requires place { place ≡ rounded_up _end (width field) }
     requires room { place + 8 ≤ length out.old }
-    requires clear { IsClearBehind _end out.old }
+    requires clear { IsClearAfter _end out.old }
     ensures end { result ≡ after _end (width field) (width field) }
     ensures put { take result out.new
         ≡ take _end out.old ++ (gap _end (width field) ++ little_endian (width field) value) }
-    ensures clear { IsClearBehind result out.new }
+    ensures clear { IsClearAfter result out.new }
 {
     put_word(value, place, out);
     place + field.width()

@@ -38,7 +38,7 @@ fn has_eight(fields: &[Field]) -> bool
 
 /// Adds a value to words that hold nothing from `end` on, at the field's place after `end`; answers where the field ends.
 #[inline(always)]
-pub fn pack_behind(field: Field, value: u64, end: usize, words: &mut [u64; MAX_WORDS]) -> usize
+pub fn pack_after(field: Field, value: u64, end: usize, words: &mut [u64; MAX_WORDS]) -> usize
     requires holds { value < 256 ^ width field }
     requires near { rounded_up end 8 ≤ 64 }
     requires below { number_of_words words.old < 256 ^ end }

@@ -73,7 +73,7 @@ pub const DAMAGES: [(&str, &[Change]); 32] = [
     ("VoidUncounted", &[Uncounted(0, [1, 0, 0, 1])]),
     ("DecidedTwice", &[Commits(1, Decided::Copied(1))]),
     ("GivenTwice", &[Opens(9, 1)]),
-    ("OpenBehindItsEnd", &[Speaks(7, Spoken::Kept)]),
+    ("OpenAfterItsEnd", &[Speaks(7, Spoken::Kept)]),
     ("VoidUndecided", &[Discards(2, Decided::Void)]),
     ("LogTorn", &[Torn]),
     ("GiveBackRefused", &[Refused(1)]),
@@ -96,7 +96,7 @@ pub const DAMAGES: [(&str, &[Change]); 32] = [
     ("NeverGiven", &[Unavailable(9)]),
     ("GoesOnStopped", &[Traces(4, Traced::Stopped)]),
     ("NotWorn", &[MaxCalls(5)]),
-    ("KeptBehindFull", &[Fill]),
+    ("KeptAfterFull", &[Fill]),
     ("BlockMiscounted", &[Decides(6, Decided::Copied(3))]),
     ("SettledTooMany", &[Settles(11, 3)]),
 ];

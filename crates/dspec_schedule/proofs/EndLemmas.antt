@@ -15,12 +15,12 @@ length-full_end (q ∷ []) b bs = refl
 length-full_end (q ∷ r ∷ ps) b bs = ap suc (length-full_end (r ∷ ps) b bs)
 
 -- the number of the line after one more piece
-pub behind-more : (ps : List (List ℕ)) (p : List ℕ) (closed : Bool) (line : ℕ) → (closed ≡ true → length p ≡ 0) → (length p ≡ 0 → closed ≡ true)
+pub after-more : (ps : List (List ℕ)) (p : List ℕ) (closed : Bool) (line : ℕ) → (closed ≡ true → length p ≡ 0) → (length p ≡ 0 → closed ≡ true)
     → line ≡ length ps + 1 → line + (if not closed then 1 else 0) ≡ length (without_empty_end (ps ++ p ∷ [])) + 1
-behind-more ps [] true line to from number = omega (arith, length-empty_end ps)
-behind-more ps [] false line to from number = let e = from refl in absurd (cc)
-behind-more ps (b ∷ bs) true line to from number = absurd (omega (arith, to refl))
-behind-more ps (b ∷ bs) false line to from number = omega (arith, length-full_end ps b bs)
+after-more ps [] true line to from number = omega (arith, length-empty_end ps)
+after-more ps [] false line to from number = let e = from refl in absurd (cc)
+after-more ps (b ∷ bs) true line to from number = absurd (omega (arith, to refl))
+after-more ps (b ∷ bs) false line to from number = omega (arith, length-full_end ps b bs)
 
 -- a list is what was taken of it, the next element, and the rest
 pub cut_at : (all ps : List (List ℕ)) (p : List ℕ) (n : ℕ) → ps ≡ take n all → n < length all → p ≡ get_or all n p → all ≡ ps ++ (p ∷ drop (suc n) all)

@@ -69,17 +69,17 @@ schedule_of-fault text ps p qs t m (Line n k) split so_far number h =
 schedule_of-fault text ps p qs t m Memory split so_far number h = tt
 
 -- where all lines were read
-schedule_of-whole : (text : List ℕ) (ps : List (List ℕ)) (o : Option Plan) (behind : ℕ) → ps ≡ slice_split (λ byte. byte == 10) text
-    → lines_read None 1 ps ≡ Ok o → behind ≡ length (without_empty_end ps) + 1 → schedule_of text ≡ configured behind o
+schedule_of-whole : (text : List ℕ) (ps : List (List ℕ)) (o : Option Plan) (next_line : ℕ) → ps ≡ slice_split (λ byte. byte == 10) text
+    → lines_read None 1 ps ≡ Ok o → next_line ≡ length (without_empty_end ps) + 1 → schedule_of text ≡ configured next_line o
 unfolding schedule_of
-schedule_of-whole text ps o behind split so_far number =
+schedule_of-whole text ps o next_line split so_far number =
     let read : lines_read None 1 (lines_of text) ≡ Ok o =
     lines_read-without_end (slice_split (λ byte. byte == 10) text) None 1 ∙ ap (lines_read None 1) (sym split) ∙ so_far in
-    let count : length (lines_of text) + 1 ≡ behind = ap (λ l. length (without_empty_end l) + 1) (sym split) ∙ sym number in
+    let count : length (lines_of text) + 1 ≡ next_line = ap (λ l. length (without_empty_end l) + 1) (sym split) ∙ sym number in
     ap (λ r. r >>= λ found. configured (length (lines_of text) + 1) found) read ∙ ap (λ n. configured n o) count
 
-pub schedule_of-end : (text : List ℕ) (ps : List (List ℕ)) (o : Option Schedule) (behind : ℕ) (r : Result Schedule ScheduleFault) → r ≡ ok_or o (Line behind NoConfig)
-    → ps ≡ slice_split (λ byte. byte == 10) text → lines_read None 1 ps ≡ Ok (option_map plan_of o) → behind ≡ length (without_empty_end ps) + 1
+pub schedule_of-end : (text : List ℕ) (ps : List (List ℕ)) (o : Option Schedule) (next_line : ℕ) (r : Result Schedule ScheduleFault) → r ≡ ok_or o (Line next_line NoConfig)
+    → ps ≡ slice_split (λ byte. byte == 10) text → lines_read None 1 ps ≡ Ok (option_map plan_of o) → next_line ≡ length (without_empty_end ps) + 1
     → IfOk r (λ s. schedule_of text ≡ Ok (plan_of s)) × IfErr r (IsReadingFault (schedule_of text))
-schedule_of-end text ps None behind r same split so_far number = rw same (tt, schedule_of-whole text ps None behind split so_far number)
-schedule_of-end text ps (Some s) behind r same split so_far number = rw same (schedule_of-whole text ps (Some (plan_of s)) behind split so_far number, tt)
+schedule_of-end text ps None next_line r same split so_far number = rw same (tt, schedule_of-whole text ps None next_line split so_far number)
+schedule_of-end text ps (Some s) next_line r same split so_far number = rw same (schedule_of-whole text ps (Some (plan_of s)) next_line split so_far number, tt)

@@ -128,8 +128,8 @@ lines_of text = without_empty_end (slice_split (λ byte. byte == 10) text)
 
 -- a schedule has a configuration; where there is none, that is a fault after the last line
 abbrev pub configured : ℕ → Option Plan → Result Plan (ℕ × LineKind)
-configured behind None = Err (behind, NoConfig)
-configured behind (Some p) = Ok p
+configured next_line None = Err (next_line, NoConfig)
+configured next_line (Some p) = Ok p
 
 -- the schedule of a text, or the line and the kind of its first fault; lines are numbered from 1
 unfoldable pub schedule_of : List ℕ → Result Plan (ℕ × LineKind)

@@ -102,9 +102,9 @@ pub fn read_schedule(alloc: Global, text: &[u8]) -> Result<Schedule, ScheduleFau
         schedule = after_line(alloc, schedule, line, bytes)?;
     }
     // What stands after a last line feed is no line.
-    let behind = line + u64::from(is_open);
+    let next_line = line + u64::from(is_open);
     schedule.ok_or(ScheduleFault::Line {
-        line: behind,
+        line: next_line,
         kind: LineKind::NoConfig,
     })
 }

@@ -55,14 +55,14 @@ module _ {S : Type 0} (shape_of : S → ℕ → Option Shape) (accepted : S → 
 
   module _ (schema : S) (words : Words) (p : ℕ → List Deed) where
     -- the others, once the first ones have parted
-    pub behind : (before after : List (Cpu S)) (es fs : List ConsumerKnows) (seats : List CpuSeat) → length es ≡ length before
+    pub parted_after : (before after : List (Cpu S)) (es fs : List ConsumerKnows) (seats : List CpuSeat) → length es ≡ length before
         → AreParting shape_of accepted text schema words p seats (before ++ after) (es ++ fs)
         → AreParting shape_of accepted text schema words p (seats ++ map (λ (x : Cpu S). seat_of x) before) after fs
-    behind [] after [] fs seats n are = subst (λ ss. AreParting shape_of accepted text schema words p ss after fs) (sym (append-nil seats)) are
-    behind (c ∷ cs) after (e ∷ es) fs seats n are =
+    parted_after [] after [] fs seats n are = subst (λ ss. AreParting shape_of accepted text schema words p ss after fs) (sym (append-nil seats)) are
+    parted_after (c ∷ cs) after (e ∷ es) fs seats n are =
         subst (λ ss. AreParting shape_of accepted text schema words p ss after fs) (append_assoc seats (seat_of c ∷ []) (map (λ (x : Cpu S). seat_of x) cs))
-        (behind cs after es fs (seats ++ seat_of c ∷ []) (omega arith) (one_parted shape_of accepted text schema words p seats c (cs ++ after) e (es ++ fs) are))
-    behind before after es fs seats n are = absurd (omega arith)
+        (parted_after cs after es fs (seats ++ seat_of c ∷ []) (omega arith) (one_parted shape_of accepted text schema words p seats c (cs ++ after) e (es ++ fs) are))
+    parted_after before after es fs seats n are = absurd (omega arith)
 
     -- all have parted
     pub all_seats : (seats new : List CpuSeat) (cpus : List (Cpu S)) (ends : List ConsumerKnows) → AreParting shape_of accepted text schema words p seats cpus ends
@@ -72,7 +72,7 @@ module _ {S : Type 0} (shape_of : S → ℕ → Option Shape) (accepted : S → 
         subst (λ xs. AreParting shape_of accepted text schema words p seats xs (ends ++ [])) (sym (append-nil cpus))
         (subst (λ es. AreParting shape_of accepted text schema words p seats cpus es) (sym (append-nil ends)) are) in
         subst (λ ss. AreSeats words ss) (sym is)
-        (are_seats shape_of accepted text schema words p (seats ++ map (λ (x : Cpu S). seat_of x) cpus) [] [] (behind cpus [] ends [] seats are.ends_all split) refl)
+        (are_seats shape_of accepted text schema words p (seats ++ map (λ (x : Cpu S). seat_of x) cpus) [] [] (parted_after cpus [] ends [] seats are.ends_all split) refl)
 
   -- What is known of the last that has parted, of those before some of which was told what is left.
   pub record NextLeft (schema : S) (words : Words) (p : ℕ → List Deed) (seats : List CpuSeat) (cpus after : List (Cpu S)) (fs : List ConsumerKnows) (xs : List Parted) (x : Parted)
@@ -116,7 +116,7 @@ module _ {S : Type 0} (shape_of : S → ℕ → Option Shape) (accepted : S → 
         count = count;
         seats_are = append_assoc seats (map (λ (y : Cpu S). seat_of y) last.before) (map (λ (y : Cpu S). seat_of y) (last.cpu ∷ after))
             ∙ ap (λ ss. seats ++ ss) (sym (map-append (λ (y : Cpu S). seat_of y) last.before (last.cpu ∷ after)) ∙ ap (λ ys. map (λ (y : Cpu S). seat_of y) ys) split);
-        parting = behind schema words p last.before (last.cpu ∷ after) es (other ∷ fs) seats count whole;
+        parting = parted_after schema words p last.before (last.cpu ∷ after) es (other ∷ fs) seats count whole;
       }
 
   -- Of all CPUs those that aren't there any more have parted: their seats stand after those before.

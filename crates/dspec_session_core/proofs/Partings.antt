@@ -10,9 +10,9 @@ use Rattle.dspec_table.specs.declared.seats.Words.{Words}
 use Rattle.dspec_session_core.proofs.{Begins.pushed, ClosingLists.close_of_ended}
 
 -- places in two lists, one after the other
-pub behind_there : {A : Type 0} (xs ys : List A) (i : ℕ) (y : A) → slice_get ys i ≡ Some y → slice_get (xs ++ ys) (length xs + i) ≡ Some y
-behind_there [] ys i y e = let z : 0 + i ≡ i = omega arith in subst (λ n. slice_get ys n ≡ Some y) (sym z) e
-behind_there (x ∷ xs) ys i y e = grind (arith, nat_tests, behind_there xs ys i y e)
+pub after_there : {A : Type 0} (xs ys : List A) (i : ℕ) (y : A) → slice_get ys i ≡ Some y → slice_get (xs ++ ys) (length xs + i) ≡ Some y
+after_there [] ys i y e = let z : 0 + i ≡ i = omega arith in subst (λ n. slice_get ys n ≡ Some y) (sym z) e
+after_there (x ∷ xs) ys i y e = grind (arith, nat_tests, after_there xs ys i y e)
 
 pub either_there : {A : Type 0} (xs ys : List A) (i : ℕ) (y : A) → slice_get (xs ++ ys) i ≡ Some y → (slice_get xs i ≡ Some y) ⊎ ((j : ℕ) × (i ≡ length xs + j) × (slice_get ys j ≡ Some y))
 either_there [] ys i y e = inr (i, omega arith, e)
@@ -64,7 +64,7 @@ module _ {S : Type 0} (shape_of : S → ℕ → Option Shape) (accepted : S → 
           found.0,
           λ i cpu there.
               let c = length seats + i in
-              let at : slice_get all c ≡ Some (seat_of cpu) = behind_there seats (map (λ (x : Cpu S). seat_of x) cpus) i (seat_of cpu) (map_there (λ (x : Cpu S). seat_of x) cpus i cpu there) in
+              let at : slice_get all c ≡ Some (seat_of cpu) = after_there seats (map (λ (x : Cpu S). seat_of x) cpus) i (seat_of cpu) (map_there (λ (x : Cpu S). seat_of x) cpus i cpu there) in
               let rest = all_at_rest c (seat_of cpu) at in
               let lt : c < (set_up words).cpus = let w = slice_get_within cpus i cpu there in let a = are.all in omega arith in
               record {

@@ -14,9 +14,9 @@ in_front : {A : Type 0} (p : A) (ps qs : List A) → In p ps → In p (ps ++ qs)
 in_front p [] qs i = absurd i
 in_front p (x ∷ xs) qs i = ⊎_elim (λ e. inl e) (λ r. inr (in_front p xs qs r)) i
 
-in_behind : {A : Type 0} (p : A) (ps qs : List A) → In p (ps ++ p ∷ qs)
-in_behind p [] qs = inl refl
-in_behind p (x ∷ xs) qs = inr (in_behind p xs qs)
+in_after : {A : Type 0} (p : A) (ps qs : List A) → In p (ps ++ p ∷ qs)
+in_after p [] qs = inl refl
+in_after p (x ∷ xs) qs = inr (in_after p xs qs)
 
 -- what is taken of each seat, from those that are left or from those joined
 pub joined_more : {A : Type 0} (f : CpuSeat → A) (all left : List CpuSeat) (next : CpuSeat) (also more : List A)
@@ -25,7 +25,7 @@ pub joined_more : {A : Type 0} (f : CpuSeat → A) (all left : List CpuSeat) (ne
 joined_more f all left next also more before c s e = ⊎_elim
     (λ (there : slice_get (left ++ next ∷ []) c ≡ Some s). ⊎_elim
     (λ old. inl old)
-    (λ (new : (c ≡ length left) × (next ≡ s)). inr (subst (λ (x : CpuSeat). In (f x) (also ++ f next ∷ more)) new.1 (in_behind (f next) also more)))
+    (λ (new : (c ≡ length left) × (next ≡ s)). inr (subst (λ (x : CpuSeat). In (f x) (also ++ f next ∷ more)) new.1 (in_after (f next) also more)))
     (got_pushed left next s c there))
     (λ i. inr (in_front (f s) also (f next ∷ more) i))
     (before c s e)

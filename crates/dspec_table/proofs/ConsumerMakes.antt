@@ -5,7 +5,7 @@ use Rattle.dspec_table.specs.{Words.ConsumerSeatStep, Words.IsStepOfPlay, Words.
 use Rattle.dspec_deeds.specs.declared.calls.ConsumerOp.TheVariants as consumer_op
 use Rattle.dspec_deeds.proofs.BareReads.{shows_bare}
 use Rattle.dspec_interleaving.specs.declared.flight.ConsumerFlight.TheVariants as consumer
-use Rattle.dspec_table.proofs.SeatsDid.{IsBehind, bare_joined}
+use Rattle.dspec_table.proofs.SeatsDid.{IsAfter, bare_joined}
 
 module _ (k : Config) (h : List Deed) (side : ConsumerProgress) (all : List CpuProgress) where
   cleans_by_place : (f : ConsumerFlight) → (consumer_step k h side all f).deeds ≡ consumer_deeds (halted h) (word_at (slot_there f) h) f
@@ -18,10 +18,10 @@ cleans_bare : (b : Bool) (w : SlotState) (f : ConsumerFlight) → bare (consumer
 cleans_bare b w f = grind (arith, nat_tests)
 
 -- a step that enters nothing
-looked : (slot : ℕ) (v w : View) → (shown : SlotState) × LookedWord slot v shown w → (log : List Deed) × Found v log × IsBehind [] v.own log w
+looked : (slot : ℕ) (v w : View) → (shown : SlotState) × LookedWord slot v shown w → (log : List Deed) × Found v log × IsAfter [] v.own log w
 looked slot v w (shown, (log, found, is, view)) = (log, found, record { own = ap (λ (x : View). x.own) view; seen = ap (λ (x : View). x.seen) view })
 
-consumer_did : (v w : View) (f : ConsumerFlight) → ConsumerSeatStep v f w → (log : List Deed) × Found v log × IsBehind (consumer_deeds (halted log) (word_at (slot_there f) log) f) v.own log w
+consumer_did : (v w : View) (f : ConsumerFlight) → ConsumerSeatStep v f w → (log : List Deed) × Found v log × IsAfter (consumer_deeds (halted log) (word_at (slot_there f) log) f) v.own log w
 consumer_did v w (consumer.Begun (consumer_op.Ask c)) (n, (log, found, view)) = (log, found, record { own = ap (λ (x : View). x.own) view; seen = ap (λ (x : View). x.seen) view })
 consumer_did v w (consumer.Begun (consumer_op.Take c)) step = absurd step
 consumer_did v w (consumer.Begun (consumer_op.GiveBack c)) step = absurd step

@@ -12,7 +12,7 @@ use Rattle.dspec_interleaving.proofs.StepsWords.{same_word_tells}
 use Rattle.dspec_table.proofs.{InFlight.service_begins, SameDeeds.same_deeds}
 
 -- the deeds ds after the seat's own list p, and after the list that the step found
-pub record IsBehind (ds p log : List Deed) (w : View) : Type 0 where
+pub record IsAfter (ds p log : List Deed) (w : View) : Type 0 where
   pub own : w.own ≡ ds ++ p
   pub seen : w.seen ≡ ds ++ log
 
@@ -22,11 +22,11 @@ bare_joined [] h = refl
 bare_joined (d ∷ ds) h = grind (arith, nat_tests, bare_joined ds h)
 
 -- a step of that call entered what a table says of the thing shown
-pub did : {A : Type 0} {place : ℕ} (F : A → List Deed) (shown is : A) (v w : View) (log : List Deed) → shown ≡ is → Entered place v log (F shown) w → IsBehind (F is) v.own log w
+pub did : {A : Type 0} {place : ℕ} (F : A → List Deed) (shown is : A) (v w : View) (log : List Deed) → shown ≡ is → Entered place v log (F shown) w → IsAfter (F is) v.own log w
 did F shown is v w log e entered = grind (arith, nat_tests)
 
 abbrev Did : Doing → CpuOp → (List Deed → List Deed) → View → View → Type 0
-Did doing o ds v w = (log : List Deed) × Found v log × (doing.op ≡ o → IsBehind (ds log) v.own log w)
+Did doing o ds v w = (log : List Deed) × Found v log × (doing.op ≡ o → IsAfter (ds log) v.own log w)
 
 begins_as : (doing : Doing) (o : CpuOp) (v w : View) → (stopped : Bool) × LoadedActivity doing v stopped w → Did doing o (λ log. at_activity v.config (number_of v.who) doing o (halted log)) v w
 begins_as = grind (arith, nat_tests)
@@ -69,7 +69,7 @@ seat_did doing v w (cpu.Begun cpu_op.Service) (inl step) = grind (arith, nat_tes
 seat_did doing v w (cpu.Begun cpu_op.Service) (inr (n, (log, found, least, view))) = (
   log,
   found,
-  λ op. subst (λ ds. IsBehind ds v.own log w) (sym (service_begins v.config (number_of v.who) doing (halted log) (seat_reads doing log).word (seat_reads doing log).hits))
+  λ op. subst (λ ds. IsAfter ds v.own log w) (sym (service_begins v.config (number_of v.who) doing (halted log) (seat_reads doing log).word (seat_reads doing log).hits))
       (record { own = ap (λ (x : View). x.own) view; seen = ap (λ (x : View). x.seen) view }),
 )
 seat_did doing v w (cpu.Begun o) step = begins_as doing o v w step

@@ -192,8 +192,8 @@ module _ (done : ℕ → CallsMade → Type 0) where
   callable_there shared ws c w (r, same, all) at cpu e = callable_so r c shared w.inside w.came same (all c w at) cpu e
 
   -- after a look too
-  pub callable_behind : (shared : Shared) (ws : List Whereabouts) (c : ℕ) (w v : Whereabouts) → AreCpusOf done shared ws → slice_get ws c ≡ Some w → ComesIn done w v → IsCallableInside shared v
-  callable_behind shared ws c w v (r, same, all) at comes cpu e = callable_so r c shared v.inside v.came same (comes.keeps r c (all c w at)) cpu e
+  pub callable_after : (shared : Shared) (ws : List Whereabouts) (c : ℕ) (w v : Whereabouts) → AreCpusOf done shared ws → slice_get ws c ≡ Some w → ComesIn done w v → IsCallableInside shared v
+  callable_after shared ws c w v (r, same, all) at comes cpu e = callable_so r c shared v.inside v.came same (comes.keeps r c (all c w at)) cpu e
 
   module _ (R : Whereabouts → Whereabouts → Type 0) (keeps : (x y : Whereabouts) → R x y → KeepsPlace done x y) where
     pub each_placed : (r : Rank) (xs ys : List Whereabouts) → EachPair R xs ys → AreAtPlaces done r xs → AreAtPlaces done r ys
@@ -239,20 +239,20 @@ module _ (done : ℕ → CallsMade → Type 0) where
     )
     hands_so (Err e) c xs x z y at is = ap (λ (w : Whereabouts). slice_set (who_is_in xs) c w.inside) is
 
-    abbrev pub seen_behind : (a : Result (Option (Cpu EnabledRows)) E) (c : ℕ) (xs ys : List Whereabouts) → AtOne (LooksAndSends done a) c xs ys → List (Option (Cpu EnabledRows))
-    seen_behind a c xs ys one = slice_set (who_is_in xs) c one.does.looked.inside
+    abbrev pub seen_after : (a : Result (Option (Cpu EnabledRows)) E) (c : ℕ) (xs ys : List Whereabouts) → AtOne (LooksAndSends done a) c xs ys → List (Option (Cpu EnabledRows))
+    seen_after a c xs ys one = slice_set (who_is_in xs) c one.does.looked.inside
 
     pub seen_later : (a : Result (Option (Cpu EnabledRows)) E) (c : ℕ) (xs ys : List Whereabouts) (one : AtOne (LooksAndSends done a) c xs ys)
-        → EachPair StaysIn (who_is_in xs) (seen_behind a c xs ys one)
+        → EachPair StaysIn (who_is_in xs) (seen_after a c xs ys one)
     seen_later a c xs ys one =
         each_set StaysIn stays_itself (who_is_in xs) c one.was.inside one.does.looked.inside
         (slice_get-map (λ (w : Whereabouts). w.inside) xs c ∙ ap (option_map (λ (w : Whereabouts). w.inside)) one.there) one.does.comes.stays
 
     pub seen_handed : (a : Result (Option (Cpu EnabledRows)) E) (c : ℕ) (xs ys : List Whereabouts) (one : AtOne (LooksAndSends done a) c xs ys)
-        → MatchResult a (λ o. (o ≡ option_map_or (λ p. p) (slice_get (seen_behind a c xs ys one) c) None) × (who_is_in ys ≡ slice_set (seen_behind a c xs ys one) c None))
-        (λ _. who_is_in ys ≡ seen_behind a c xs ys one)
+        → MatchResult a (λ o. (o ≡ option_map_or (λ p. p) (slice_get (seen_after a c xs ys one) c) None) × (who_is_in ys ≡ slice_set (seen_after a c xs ys one) c None))
+        (λ _. who_is_in ys ≡ seen_after a c xs ys one)
     seen_handed a c xs ys one =
         let now : who_is_in ys ≡ slice_set (who_is_in xs) c one.is.inside = ap who_is_in one.all ∙ map-set (λ (w : Whereabouts). w.inside) xs c one.is in
         let here = hands_so a c xs one.was one.does.looked one.is one.there one.does.sends.sends in
-        subst (λ l. MatchResult a (λ o. (o ≡ option_map_or (λ p. p) (slice_get (seen_behind a c xs ys one) c) None) × (l ≡ slice_set (seen_behind a c xs ys one) c None))
-        (λ _. l ≡ seen_behind a c xs ys one)) (sym now) here
+        subst (λ l. MatchResult a (λ o. (o ≡ option_map_or (λ p. p) (slice_get (seen_after a c xs ys one) c) None) × (l ≡ slice_set (seen_after a c xs ys one) c None))
+        (λ _. l ≡ seen_after a c xs ys one)) (sym now) here

@@ -5,7 +5,7 @@ use Rattle.std.specs.Prelude.{slice_index, slice_range}
 use Rattle.dspec_trace_reading.specs.Words.{ReadsPackets, Record, EnabledRows, missed_packets, run_packets, Accepts, file_bytes, AreRuns, AddsAll, TakesAll, TellsMissed, row_name, FileWrite}
 use Rattle.dspec_trace_reading.specs.Words.{file_of, Names, Run}
 use Rattle.dspec_record.specs.declared.header.Header.TheVariants as header
-use Rattle.dspec_filing_reading.proofs.{FilesLaws.FilesLaws, Packets.bytes_more, Packets.one_few, Packets.reads_missed, Packets.reads_runs, Sharing.lasts_behind, Sharing.packets_few}
+use Rattle.dspec_filing_reading.proofs.{FilesLaws.FilesLaws, Packets.bytes_more, Packets.one_few, Packets.reads_missed, Packets.reads_runs, Sharing.lasts_follow, Sharing.packets_few}
 use Rattle.dspec_filing_reading.proofs.{Sharing.runs_few, Sharing.stamps_low}
 use Rattle.dspec_trace_reading.proofs.Taking.{grows_here, row_writes, took_all}
 
@@ -49,12 +49,12 @@ module _ (laws : FilesLaws) (uuid : List ℕ) (e : EnabledRows) (names : Names) 
       → Filed uuid e names hertz c new after missed (stream ++ slice_range read 0 to)
   add_to mid new lasts after missed stream read runs to small accepted f are_runs taken =
       let ps : List (ℕ × List ℕ) = run_packets uuid e missed c read 0 runs in
-      let behind = lasts_behind laws.have_all laws.runs_have lasts read 0 to runs after f.few f.first (stamps_low e read accepted) are_runs in
+      let later = lasts_follow laws.have_all laws.runs_have lasts read 0 to runs after f.few f.first (stamps_low e read accepted) are_runs in
       record {
         writes = f.writes ++ row_writes c ps;
         asked = took_all c ps mid new f.writes f.asked taken;
-        few = behind.0;
-        first = behind.1;
+        few = later.0;
+        first = later.1;
         packets = f.packets ++ ps;
         reads = reads_runs laws uuid e names hertz c (omega (arith, low)) long stamped f.packets stream lasts after read 0 to runs missed small accepted f.few are_runs f.reads;
         have = have_more f.writes f.packets ps (packets_few uuid e missed c read 0 runs (runs_few laws.have_all laws.runs_have lasts read 0 runs to after f.few are_runs)) f.have;

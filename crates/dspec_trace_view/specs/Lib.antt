@@ -1,2 +1,4 @@
+pub mod Following
+pub mod Pages
 pub mod Paths
 pub mod Words

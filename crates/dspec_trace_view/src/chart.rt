@@ -1,6 +1,10 @@
 //! Traces as a document of Chrome's Trace Event form, which ui.perfetto.dev and chrome://tracing open: a process for each folder, and in
-//! it a row for each CPU.
+//! it a row for each CPU, and rows for the threads whose paths were kept.
 
+use crate::path_bars::put_paths;
+use crate::path_events::MergedTraces;
+use crate::path_words::put_begin;
+use crate::paths::{KeptPaths, marks_of_path};
 use dspec_ctf_reading::Metadata;
 use dspec_ctf_reading::folder::{Mark, Track, What, chrome_event, chrome_missed, chrome_name};
 use dspec_folder_view::{Merged, OpenedTraces, Source};
@@ -11,7 +15,13 @@ use std::io::Write;
 /// What stands before the events.
 pub(crate) const FRONT: &str = "{\"displayTimeUnit\":\"ns\",\"traceEvents\":[\n";
 
-/// What stands behind them.
+/// What comes before them where it is told when the picture begins.
+const DATED_FRONT: &str = "{\"displayTimeUnit\":\"ns\",\"otherData\":{\"begin\":\"";
+
+/// What comes after that time.
+const DATED_END: &str = "\"},\"traceEvents\":[\n";
+
+/// What comes after the events.
 pub(crate) const END: &[u8] = b"\n]}\n";
 
 /// How far events of a trace without a clock are drawn from one another, in nanoseconds.
@@ -26,7 +36,11 @@ pub(crate) fn track_of(source: &Source) -> Track {
 }
 
 /// What a trace is called: by its program, process and machine, where it tells them, else by its folder.
-fn name_of(alloc: Global, path: &str, metadata: &Metadata<'_>) -> Result<String, AllocError> {
+pub(crate) fn name_of(
+    alloc: Global,
+    path: &str,
+    metadata: &Metadata<'_>,
+) -> Result<String, AllocError> {
     match metadata.process {
         Some(process) => {
             let (host, name, pid) = (process.host, process.name, process.pid);
@@ -66,7 +80,7 @@ fn row_name(alloc: Global, merged: &Merged, source: &Source) -> Result<String, A
     chrome_name(alloc, track_of(source), "thread_name", name.as_str())
 }
 
-/// What happened so many nanoseconds behind the picture's beginning, as an event in the row of its CPU.
+/// What happened so many nanoseconds after the picture's beginning, as an event in the row of its CPU.
 pub(crate) fn event_of(
     alloc: Global,
     traces: &OpenedTraces<'_, '_, '_>,
@@ -97,16 +111,16 @@ fn begin_of(merged: &Merged) -> u128 {
     }
 }
 
-/// How many nanoseconds a mark is behind the picture's beginning, by a clock.
-pub(crate) fn behind_begin(merged: &Merged, mark: &Mark) -> u64 {
-    let behind = mark.time.saturating_sub(begin_of(merged));
-    u64::try_from(behind).unwrap_or(u64::MAX)
+/// How many nanoseconds a mark is after the picture's beginning, by a clock.
+pub(crate) fn after_begin(merged: &Merged, mark: &Mark) -> u64 {
+    let nanoseconds = mark.time.saturating_sub(begin_of(merged));
+    u64::try_from(nanoseconds).unwrap_or(u64::MAX)
 }
 
 /// The same; without a clock by its place in its file.
 fn nanoseconds_of(merged: &Merged, mark: &Mark, places: &mut [u64]) -> u64 {
     if merged.base.is_some() {
-        return behind_begin(merged, mark);
+        return after_begin(merged, mark);
     }
     let Some(place) = places.get_mut(mark.file) else {
         return 0;
@@ -114,6 +128,17 @@ fn nanoseconds_of(merged: &Merged, mark: &Mark, places: &mut [u64]) -> u64 {
     let now = *place;
     *place = now.saturating_add(STEP);
     now
+}
+
+/// What stands before the events: with the time of the first of them, from which on a picture's times are counted, where a clock tells it.
+fn front_of(alloc: Global, of: MergedTraces<'_, '_, '_, '_>) -> Result<String, AllocError> {
+    let mut begin = String::new(alloc);
+    put_begin(&mut begin, of)?;
+    if begin.is_empty() {
+        return String::from_str(alloc, FRONT);
+    }
+    let begin = begin.as_str();
+    format!(in alloc; "{DATED_FRONT}{begin}{DATED_END}")
 }
 
 /// The number of the first row that isn't a CPU's: each CPU's is below it.
@@ -125,12 +150,12 @@ pub(crate) fn first_number(merged: &Merged) -> u64 {
     first
 }
 
-/// Writes an event, behind a comma where it isn't the first.
-pub(crate) fn put_event<W: Write>(out: &mut W, first: bool, event: &str) -> io::Result<()> {
+/// Writes an event, after a comma where it isn't the first.
+pub(crate) fn put_event<W: Write>(out: &mut W, first: bool, event: &[u8]) -> io::Result<()> {
     if !first {
         out.write_all(b",\n")?;
     }
-    out.write_all(event.as_bytes())
+    out.write_all(event)
 }
 
 /// Writes the names of all rows and of their traces, each once.
@@ -144,13 +169,52 @@ fn put_names<W: Write>(
     for source in &merged.sources {
         if before.is_none_or(|other| other.folder != source.folder) {
             let name = process_name(alloc, traces, source)?;
-            put_event(out, before.is_none(), name.as_str())?;
+            put_event(out, before.is_none(), name.as_str().as_bytes())?;
         }
         if before != Some(*source) {
             let name = row_name(alloc, merged, source)?;
-            put_event(out, false, name.as_str())?;
+            put_event(out, false, name.as_str().as_bytes())?;
         }
         before = Some(*source);
+    }
+    Ok(())
+}
+
+/// Which marks stand in rows of paths.
+fn marks_in_paths(
+    alloc: Global,
+    merged: &Merged,
+    paths: &KeptPaths,
+) -> Result<Vec<bool>, AllocError> {
+    let mut taken = vec![in alloc; false; merged.marks.len()]?;
+    for path in &paths.paths {
+        for mark in marks_of_path(alloc, paths, path)? {
+            if let Some(slot) = taken.get_mut(mark) {
+                *slot = true;
+            }
+        }
+    }
+    Ok(taken)
+}
+
+/// Writes the marks that stand in no row of paths, in the rows of their CPUs.
+fn put_marks<W: Write>(
+    alloc: Global,
+    out: &mut W,
+    of: MergedTraces<'_, '_, '_, '_>,
+    taken: &[bool],
+) -> io::Result<()> {
+    let mut places = vec![in alloc; 0u64; of.merged.sources.len()]?;
+    for (mark, taken) in of.merged.marks.iter().zip(taken) {
+        let nanoseconds = nanoseconds_of(of.merged, mark, places.as_mut_slice());
+        if *taken {
+            continue;
+        }
+        let Some(source) = of.merged.sources.get(mark.file) else {
+            continue;
+        };
+        let event = event_of(alloc, of.traces, source, &mark.what, nanoseconds)?;
+        put_event(out, false, event.as_str().as_bytes())?;
     }
     Ok(())
 }
@@ -159,19 +223,14 @@ fn put_names<W: Write>(
 pub(crate) fn write_chart<W: Write>(
     alloc: Global,
     out: &mut W,
-    traces: &OpenedTraces<'_, '_, '_>,
-    merged: &Merged,
+    of: MergedTraces<'_, '_, '_, '_>,
+    paths: &KeptPaths,
 ) -> io::Result<()> {
-    out.write_all(FRONT.as_bytes())?;
-    put_names(alloc, out, traces, merged)?;
-    let mut places = vec![in alloc; 0u64; merged.sources.len()]?;
-    for mark in &merged.marks {
-        let nanoseconds = nanoseconds_of(merged, mark, places.as_mut_slice());
-        let Some(source) = merged.sources.get(mark.file) else {
-            continue;
-        };
-        let event = event_of(alloc, traces, source, &mark.what, nanoseconds)?;
-        put_event(out, false, event.as_str())?;
-    }
+    let front = front_of(alloc, of)?;
+    out.write_all(front.as_str().as_bytes())?;
+    put_names(alloc, out, of.traces, of.merged)?;
+    let taken = marks_in_paths(alloc, of.merged, paths)?;
+    put_marks(alloc, out, of, taken.as_slice())?;
+    put_paths(alloc, out, of, paths, first_number(of.merged))?;
     out.write_all(END)
 }

@@ -1,6 +1,6 @@
 //! The events of folders, and what each is for a path.
 
-use crate::chart::behind_begin;
+use crate::chart::after_begin;
 use dspec_ctf_reading::EventText;
 use dspec_ctf_reading::folder::What;
 use dspec_folder_view::{Merged, OpenedTraces, Source};
@@ -75,7 +75,7 @@ pub(crate) fn event_at<'s, 'o>(
         place: event.place,
         text,
         values: event.values.as_slice(),
-        time: behind_begin(of.merged, mark),
+        time: after_begin(of.merged, mark),
     })
 }
 

@@ -1,5 +1,8 @@
 //! `specview folder --paths` and `--path`: the kept paths in a table, and one path's records.
 
+ghost use Rattle.std.specs.Prelude.{◌↔◌, ◌≤◌, ◌+◌, IsTrue};
+
+use crate::chart::after_begin;
 use crate::listing::put_whose;
 use crate::path_events::{MergedTraces, event_at};
 use crate::path_words::{KeptEnd, end_of, put_time, put_took, record_text};
@@ -17,10 +20,12 @@ pub struct PathChoice<'a> {
     pub longer: u64,
     /// Those with a record of this name.
     pub event: Option<&'a str>,
+    /// Those that ended so many nanoseconds before the last event, or later.
+    pub since: u64,
 }
 
 /// The words above a table.
-const TITLES: &str =
+pub(crate) const TITLES: &str =
     "      path  why           thread  begin                                 took  records    cut  first record\n";
 
 /// Whether a path has a record of that name.
@@ -33,8 +38,23 @@ fn has_event(of: MergedTraces<'_, '_, '_, '_>, records: &[PathRecord], name: &st
     false
 }
 
+/// When the last event was, in nanoseconds after the first.
+fn last_time(of: MergedTraces<'_, '_, '_, '_>) -> u64 {
+    match of.merged.marks.last() {
+        Some(mark) => after_begin(of.merged, mark),
+        None => 0,
+    }
+}
+
+/// Whether what ended at one time did so within that many nanoseconds before the last, or after it.
+fn is_within(end: u64, last: u64, span: u64) -> bool
+    ensures { IsTrue result ↔ last ≤ end + span }
+{
+    last.saturating_sub(end) <= span
+}
+
 /// Whether a path is among those that are asked for.
-fn is_chosen(
+pub(crate) fn is_chosen(
     of: MergedTraces<'_, '_, '_, '_>,
     choice: &PathChoice<'_>,
     path: &KeptPath,
@@ -42,6 +62,10 @@ fn is_chosen(
     records: &[PathRecord],
 ) -> bool {
     if path.took < choice.longer {
+        return false;
+    }
+    let end_time = path.begin.saturating_add(path.took);
+    if !is_within(end_time, last_time(of), choice.since) {
         return false;
     }
     if let Some(why) = choice.why
@@ -86,7 +110,7 @@ fn put_folder(
 }
 
 /// The line of a path.
-fn line_of(
+pub(crate) fn line_of(
     alloc: Global,
     of: MergedTraces<'_, '_, '_, '_>,
     path: &KeptPath,
@@ -140,8 +164,8 @@ fn record_line(
     let Some(event) = event_at(of, mark) else {
         return Ok(String::new(alloc));
     };
-    let behind = event.time.saturating_sub(path.begin);
-    let (seconds, rest) = (behind / 1_000_000_000, behind % 1_000_000_000);
+    let after = event.time.saturating_sub(path.begin);
+    let (seconds, rest) = (after / 1_000_000_000, after % 1_000_000_000);
     let words = record_text(alloc, &event)?;
     let words = words.as_str();
     format!(in alloc; "  +{seconds}.{rest:09}  {words}\n")

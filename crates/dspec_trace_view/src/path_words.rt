@@ -1,13 +1,20 @@
 //! What is told of a path, in words.
 
 use crate::path_events::{MergedTraces, PATH_FIELD, ShownEvent, event_at, value_of};
-use crate::paths::KeptPath;
-use dspec_ctf_reading::folder::{event_text, field_text};
+use crate::paths::{KeptPath, PathCrash, PathRecord};
+use dspec_ctf_reading::Kind;
+use dspec_ctf_reading::folder::{Base, Moment, event_text, field_text};
 use dspec_folder_view::put_moment;
 use std::alloc::{AllocError, Global};
 
 /// The reason of a path that no event ends.
 const UNTOLD: &str = "untold";
+
+/// The event that tells of a place of a crash.
+const PLACE_EVENT: &str = "dspec_crash_at";
+
+/// How many marks after a crash its places are looked for.
+const MOST_PLACES: usize = 64;
 
 /// What the end of a path tells.
 #[derive(Debug, Drop)]
@@ -18,6 +25,10 @@ pub(crate) struct KeptEnd {
     pub thread: u64,
     /// How many of its records aren't there.
     pub cut: u64,
+    /// The first 8 bytes of its key; 0 where it has none.
+    pub key_high: u64,
+    /// The other 8.
+    pub key_low: u64,
 }
 
 /// Why a path was kept, by the event that ends it.
@@ -39,12 +50,16 @@ pub(crate) fn end_of(
             why: String::from_str(alloc, UNTOLD)?,
             thread: 0,
             cut: 0,
+            key_high: 0,
+            key_low: 0,
         });
     };
     Ok(KeptEnd {
         why: why_of(alloc, &kept)?,
         thread: value_of(&kept, "thread").unwrap_or(0),
         cut: value_of(&kept, "cut").unwrap_or(0),
+        key_high: value_of(&kept, "key_high").unwrap_or(0),
+        key_low: value_of(&kept, "key_low").unwrap_or(0),
     })
 }
 
@@ -85,4 +100,99 @@ pub(crate) fn put_time(
         return Ok(());
     };
     put_moment(out, base, first.time.saturating_add(u128::from(time)))
+}
+
+/// The thread that began a path; 0 where that isn't told.
+pub(crate) fn thread_of(of: MergedTraces<'_, '_, '_, '_>, path: &KeptPath) -> u64 {
+    let kept = path.kept.and_then(|mark| event_at(of, mark));
+    kept.and_then(|kept| value_of(&kept, "thread")).unwrap_or(0)
+}
+
+/// What a path is called: by its first record, and by that one's first text.
+pub(crate) fn title_of(
+    alloc: Global,
+    of: MergedTraces<'_, '_, '_, '_>,
+    records: &[PathRecord],
+) -> Result<String, AllocError> {
+    let Some(event) = records.first().and_then(|record| event_at(of, record.mark)) else {
+        return String::from_str(alloc, "no record");
+    };
+    let mut title = String::from_str(alloc, event.text.name)?;
+    for field in &event.text.fields {
+        if field.kind != Kind::Text {
+            continue;
+        }
+        if let Some(text) = field_text(alloc, event.text, event.values, field.name)? {
+            title.push(' ')?;
+            title.push_str(text.as_str())?;
+        }
+        return Ok(title);
+    }
+    Ok(title)
+}
+
+/// The name of a signal that crashes; else its number.
+pub(crate) fn signal_name(alloc: Global, signal: u64) -> Result<String, AllocError> {
+    let name = match signal {
+        4 => "SIGILL",
+        5 => "SIGTRAP",
+        6 => "SIGABRT",
+        7 => "SIGBUS",
+        8 => "SIGFPE",
+        11 => "SIGSEGV",
+        31 => "SIGSYS",
+        _ => return format!(in alloc; "signal {signal}"),
+    };
+    String::from_str(alloc, name)
+}
+
+/// Whether an event tells of the place where a crash was, and not of its callers.
+fn is_place_of(event: &ShownEvent<'_, '_>, crash: &PathCrash) -> bool {
+    event.text.name == PLACE_EVENT
+        && event.source.folder == crash.folder
+        && event.time == crash.time
+        && value_of(event, PATH_FIELD) == Some(crash.number)
+        && value_of(event, "frame") == Some(0)
+}
+
+/// Where a crash was: in which file at which offset, where that is told, else at which address.
+pub(crate) fn crash_place(
+    alloc: Global,
+    of: MergedTraces<'_, '_, '_, '_>,
+    crash: &PathCrash,
+    event: &ShownEvent<'_, '_>,
+) -> Result<String, AllocError> {
+    let last = crash.mark.saturating_add(MOST_PLACES);
+    for mark in crash.mark..last {
+        let Some(place) = event_at(of, mark) else {
+            continue;
+        };
+        if is_place_of(&place, crash) {
+            let offset = value_of(&place, "offset").unwrap_or(0);
+            if let Some(file) = field_text(alloc, place.text, place.values, "file")? {
+                let file = file.as_str();
+                return format!(in alloc; "{file}+0x{offset:x}");
+            }
+        }
+    }
+    let address = value_of(event, "pc").unwrap_or(0);
+    format!(in alloc; "0x{address:x}")
+}
+
+/// Adds the time of the first mark as a date of ISO 8601, where a clock tells it.
+pub(crate) fn put_begin(
+    out: &mut String,
+    of: MergedTraces<'_, '_, '_, '_>,
+) -> Result<(), AllocError> {
+    let (Some(Base::Epoch), Some(first)) = (of.merged.base, of.merged.marks.first()) else {
+        return Ok(());
+    };
+    let at = Moment::of(first.time);
+    let (year, month, day) = (at.year, at.month, at.day);
+    let (hour, minute, second) = (at.hour, at.minute, at.second);
+    let rest = at.nanosecond;
+    write!(
+        out,
+        "{year:04}-{month:02}-{day:02}T{hour:02}:{minute:02}:{second:02}.{rest:09}Z"
+    )
 }

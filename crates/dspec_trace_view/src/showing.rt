@@ -3,11 +3,14 @@
 use crate::chart::write_chart;
 use crate::listing::write_list;
 use crate::path_events::{MergedTraces, PATH_FIELD};
+use crate::path_otlp::write_spans;
+use crate::path_page::page_of;
 use crate::path_table::{PathChoice, has_path, write_path, write_table};
 use crate::paths::KeptPaths;
 use crate::tracks::write_tracks;
 use dspec_command::output_fault;
 use dspec_ctf_reading::Metadata;
+use dspec_ctf_reading::folder::Base;
 use dspec_folder_view::{
     FolderViewFault, OpenedTraces, TraceFolderFault, merge_all, metadata_of_all, open_all,
 };
@@ -28,6 +31,8 @@ pub enum OutputFormat<'a> {
     Paths(PathChoice<'a>),
     /// The records of the path of this number.
     Path(u64),
+    /// A line for each kept path, as a collector of OpenTelemetry reads it.
+    Spans,
 }
 
 /// Whether an event of this trace has a field of that name.
@@ -68,10 +73,9 @@ fn paths_for(
     shape: OutputFormat<'_>,
 ) -> Result<KeptPaths, AllocError> {
     match shape {
-        OutputFormat::Text | OutputFormat::Json | OutputFormat::Tracks(_) => {
-            Ok(KeptPaths::none(alloc))
-        }
-        OutputFormat::Paths(_) | OutputFormat::Path(_) => KeptPaths::of(alloc, of),
+        OutputFormat::Text | OutputFormat::Tracks(_) => Ok(KeptPaths::none(alloc)),
+        OutputFormat::Json | OutputFormat::Paths(_) | OutputFormat::Path(_) | OutputFormat::Spans =>
+            KeptPaths::of(alloc, of),
     }
 }
 
@@ -85,6 +89,10 @@ fn see_asked<'a>(
         OutputFormat::Text | OutputFormat::Json => Ok(()),
         OutputFormat::Tracks(field) => see_field(of.traces, field),
         OutputFormat::Paths(_) => see_field(of.traces, PATH_FIELD),
+        OutputFormat::Spans if of.merged.base == Some(Base::Epoch) => see_field(
+            of.traces, PATH_FIELD,
+        ),
+        OutputFormat::Spans => Err(TraceFolderFault::NoDate),
         OutputFormat::Path(number) if has_path(paths, number) => Ok(()),
         OutputFormat::Path(number) => Err(TraceFolderFault::NoPath(number)),
     }
@@ -100,10 +108,11 @@ fn write_shape<W: Write>(
 ) -> io::Result<()> {
     match shape {
         OutputFormat::Text => write_list(alloc, out, of.traces, of.merged),
-        OutputFormat::Json => write_chart(alloc, out, of.traces, of.merged),
+        OutputFormat::Json => write_chart(alloc, out, of, paths),
         OutputFormat::Tracks(field) => write_tracks(alloc, out, of.traces, of.merged, field),
         OutputFormat::Paths(choice) => write_table(alloc, out, of, paths, &choice),
         OutputFormat::Path(number) => write_path(alloc, out, of, paths, number),
+        OutputFormat::Spans => write_spans(alloc, out, of, paths),
     }
 }
 
@@ -133,4 +142,26 @@ pub fn show_folders<'a>(
     written(write_shape(rt.alloc(), &mut out, of, &kept, shape))?;
     written(out.flush())?;
     Ok(merged.sound)
+}
+
+/// The page of the paths of folders, and whether each of their files could be read to its end.
+pub fn page_of_folders<'a>(
+    rt: &HostRuntime,
+    paths: &[&'a str],
+) -> Result<(Vec<u8>, bool), FolderViewFault<'a>> {
+    let opened = open_all(rt, paths)?;
+    let metadatas = metadata_of_all(rt.alloc(), opened.as_slice())?;
+    let traces = OpenedTraces {
+        opened: opened.as_slice(),
+        metadatas: metadatas.as_slice(),
+    };
+    see_field(&traces, PATH_FIELD)?;
+    let merged = merge_all(rt, &traces)?;
+    let of = MergedTraces {
+        traces: &traces,
+        merged: &merged,
+    };
+    let kept = KeptPaths::of(rt.alloc(), of)?;
+    let page = page_of(rt.alloc(), of, &kept)?;
+    Ok((page, merged.sound))
 }

@@ -2,7 +2,7 @@
 //! number: they stand in it in order of time, whichever CPUs they were made on.
 
 use crate::chart::{
-    END, FRONT, STEP, behind_begin, cpu_name, event_of, first_number, process_name, put_event,
+    END, FRONT, STEP, after_begin, cpu_name, event_of, first_number, process_name, put_event,
 };
 use dspec_ctf_reading::EventText;
 use dspec_ctf_reading::folder::{
@@ -146,10 +146,10 @@ fn name_of(
     }
 }
 
-/// How many nanoseconds a mark is behind the picture's beginning; without a clock by its place in its row.
+/// How many nanoseconds a mark is after the picture's beginning; without a clock by its place in its row.
 fn nanoseconds_in(merged: &Merged, mark: &Mark, place: usize) -> u64 {
     if merged.base.is_some() {
-        return behind_begin(merged, mark);
+        return after_begin(merged, mark);
     }
     STEP.saturating_mul(place as u64)
 }
@@ -190,7 +190,7 @@ fn put_records<W: Write>(
     for place in 0..row.len() {
         if let Some((text, record)) = record_at(page, row, place) {
             let event = chrome_record(alloc, track, text, record)?;
-            put_event(out, false, event.as_str())?;
+            put_event(out, false, event.as_str().as_bytes())?;
         }
     }
     Ok(())
@@ -212,7 +212,7 @@ fn put_marks<W: Write>(
         };
         let nanoseconds = nanoseconds_in(page.merged, mark, place);
         let event = event_of(alloc, page.traces, source, &mark.what, nanoseconds)?;
-        put_event(out, false, event.as_str())?;
+        put_event(out, false, event.as_str().as_bytes())?;
     }
     Ok(())
 }
@@ -237,7 +237,7 @@ fn put_row<W: Write>(
     };
     let name = name_of(alloc, page, &first.owner)?;
     let event = chrome_name(alloc, track, "thread_name", name.as_str())?;
-    put_event(out, false, event.as_str())?;
+    put_event(out, false, event.as_str().as_bytes())?;
     match first.owner {
         Owner::Cpu(_) => put_marks(alloc, out, page, row),
         Owner::Value(_) => put_records(alloc, out, page, row, track),
@@ -254,7 +254,7 @@ fn put_processes<W: Write>(
     for source in &page.merged.sources {
         if before != Some(source.folder) {
             let name = process_name(alloc, page.traces, source)?;
-            put_event(out, before.is_none(), name.as_str())?;
+            put_event(out, before.is_none(), name.as_str().as_bytes())?;
         }
         before = Some(source.folder);
     }

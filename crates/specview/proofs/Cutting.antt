@@ -12,7 +12,7 @@ records_more : (xs ys : List Sealing) → batch_records (xs ++ ys) ≡ batch_rec
 records_more [] ys = refl
 records_more (b ∷ xs) ys = rw (records_more xs ys) (sym (append_assoc (reverse (contents b.offers)) (batch_records xs) (batch_records ys)))
 
--- batches with one more behind them
+-- batches with one more after them
 one_more : (b : Sealing) (bs : List Sealing) → batch_records (reverse (b ∷ bs)) ≡ batch_records (reverse bs) ++ reverse (contents b.offers)
 one_more b bs =
     ap batch_records (reverse-append (b ∷ []) bs)
@@ -33,7 +33,7 @@ tells_earlier : (c : ℕ) (xs h : List Deed) → TellsCounts c (xs ++ h) → Tel
 tells_earlier c [] h t = t
 tells_earlier c (x ∷ xs) h t = tells_earlier c xs h t.0
 
--- all deeds, those behind a place in front
+-- all deeds, those after a place in front
 split : (ds : List Deed) (i : ℕ) → reverse ds ≡ reverse (drop i ds) ++ reverse (take i ds)
 split ds i = ap reverse (sym (take-append-drop i ds)) ∙ reverse-append (take i ds) (drop i ds)
 
@@ -139,7 +139,7 @@ module _ (c : ℕ) (all : List Record) where
       let front : rest ≡ reverse (contents (growing c h).offers) = rest_begins h rest [] is.left (ends ∙ sym (append-nil (stream c h))) ∙ append-nil (reverse (contents (growing c h).offers)) in
       rw (front, is.dropped) refl
 
-  -- with what was left behind them, the batches are all
+  -- with what was left after them, the batches are all
   pub ended_at : (ds : List Deed) (i : ℕ) (cut found : List ShareOf) (rest : List Record) (count drops : ℕ) → all ≡ stream c (reverse ds)
       → IsCut c (reverse (take i ds)) all cut rest count drops → length ds ≤ i → found ≡ cut ++ last_share (record { drops = drops; records = rest })
       → found ≡ shares c (reverse ds)

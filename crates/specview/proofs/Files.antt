@@ -1,4 +1,4 @@
--- Files that come behind others in a folder.
+-- Files that come after others in a folder.
 use Rattle.std.proofs.Common.{◌≡◌, ℕ, ◌+◌, ◌<◌, ◌≤◌, List, [], ◌∷◌, ◌++◌, Option, Some, None, length, map, take, get_or, sym, ap, ◌∙◌, subst, append_assoc, arith}
 use Rattle.std.proofs.lemmas.{Bool.Decides.nat_tests, List.append-nil, List.take_more, List.map-append, List.length-map, List.length-take-le}
 use Rattle.specview.specs.Words.{NamedFile, AddsFiles, written_files, cpu_files}

@@ -4,20 +4,20 @@ use Rattle.std.proofs.Common.{if◌then◌else◌, ◌^◌, suc, add-one, drop-c
 use Rattle.std.proofs.lemmas.{Bool.Decides.nat_tests, List.get_or-map, List.length-map, List.reverse-append, List.Elements.All-nil, List.Elements.All-cons, List.Elements.All-head}
 use Rattle.std.proofs.lemmas.{List.Elements.All-tail, List.Elements.All-push, List.Elements.All-append, List.Elements.All-map, List.Elements.All-get_or}
 use Rattle.specview.specs.Words.{Record, EnabledRows, enabled, table_accepts, contents, accepts, accepted, stream, Offer, growing, seals_now, batches, batch_records, events, packet_of}
-use Rattle.specview.specs.Words.{HasNoRecordPacket, metadata_fault, form_fault, ShareOf, share_of, shares, last_share, shown_share, written_shares, Accepts, packets_behind, refused_in, Deed, Form}
-use Rattle.specview.specs.Words.{AsTaken, ByTime, NoStamp, Numbered, PacketFault}
+use Rattle.specview.specs.Words.{HasNoRecordPacket, metadata_fault, form_fault, ShareOf, share_of, shares, last_share, shown_share, written_shares, Accepts, packets_following, refused_in, Deed}
+use Rattle.specview.specs.Words.{Form, AsTaken, ByTime, NoStamp, Numbered, PacketFault}
 use Rattle.specview.specs.declared.batches.Share.{Share}
 use Rattle.dspec_buffer.proofs.Accepted.{front_accepted, back_accepted}
 use Rattle.dspec_deeds.proofs.Prefixes.{stream_in_batches}
 use Rattle.dspec_record.specs.declared.header.Header.TheVariants as header
 use Rattle.dspec_ctf.specs.declared.stream.PacketFault.TheVariants as packet
 
--- the contents of two lists, one behind the other
+-- the contents of two lists, one after the other
 contents_more : (xs ys : List Offer) → contents (xs ++ ys) ≡ contents xs ++ contents ys
 contents_more [] ys = refl
 contents_more (x ∷ xs) ys = ap (λ zs. x.content ∷ zs) (contents_more xs ys)
 
--- the stream behind one more deed
+-- the stream after one more deed
 pub stream_more : (c : ℕ) (d : Deed) (h : List Deed) → stream c (d ∷ h) ≡ stream c h ++ reverse (contents (accepts c d h))
 stream_more c d h = ap reverse (contents_more (accepts c d h) (accepted c h)) ∙ reverse-append (contents (accepts c d h)) (contents (accepted c h))
 
@@ -85,13 +85,13 @@ module _ (e : EnabledRows) (missed : ℕ) (ss : List Share) (i : ℕ) (s : Share
       ap (map shown_share) (drop-cons ss i s lt ∙ ap (λ (x : Share). x ∷ drop (suc i) ss) (sym is))
       ∙ ap (λ l. shown_share s ∷ map shown_share l) next
 
-  -- its packet behind those so far
+  -- its packet after those so far
   pub packet_next : (uuid : List ℕ) (cpu : ℕ) (old new bytes all : List ℕ) → new ≡ old ++ bytes → bytes ≡ packet_of uuid e (missed + s.drops) cpu s.records.now
-      → old ++ packets_behind uuid e cpu missed (map shown_share (drop i ss)) ≡ all → new ++ packets_behind uuid e cpu (missed + s.drops) (map shown_share (drop (i + 1) ss)) ≡ all
+      → old ++ packets_following uuid e cpu missed (map shown_share (drop i ss)) ≡ all → new ++ packets_following uuid e cpu (missed + s.drops) (map shown_share (drop (i + 1) ss)) ≡ all
   packet_next uuid cpu old new bytes all put is_packet before =
-      ap (λ l. l ++ packets_behind uuid e cpu (missed + s.drops) (map shown_share (drop (i + 1) ss))) (put ∙ ap (λ l. old ++ l) is_packet)
-      ∙ (append_assoc old (packet_of uuid e (missed + s.drops) cpu s.records.now) (packets_behind uuid e cpu (missed + s.drops) (map shown_share (drop (i + 1) ss)))
-      ∙ (ap (λ l. old ++ packets_behind uuid e cpu missed l) (sym here) ∙ before))
+      ap (λ l. l ++ packets_following uuid e cpu (missed + s.drops) (map shown_share (drop (i + 1) ss))) (put ∙ ap (λ l. old ++ l) is_packet)
+      ∙ (append_assoc old (packet_of uuid e (missed + s.drops) cpu s.records.now) (packets_following uuid e cpu (missed + s.drops) (map shown_share (drop (i + 1) ss)))
+      ∙ (ap (λ l. old ++ packets_following uuid e cpu missed l) (sym here) ∙ before))
 
   -- what was refused so far, and what the batches from this one on refuse
   pub refused_next : missed + refused_in (map shown_share (drop i ss)) ≡ (missed + s.drops) + refused_in (map shown_share (drop (i + 1) ss))

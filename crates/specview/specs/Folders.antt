@@ -10,7 +10,7 @@ pub record NamedFile : Type 0 where
 abbrev pub named_file : List ℕ → List ℕ → List NamedFile
 named_file name bytes = record { name = name; bytes = bytes } ∷ []
 
--- where the files of a folder are known, these come behind them
+-- where the files of a folder are known, these come after them
 abbrev pub AddsFiles : Option (List NamedFile) → Option (List NamedFile) → List NamedFile → Type 0
 AddsFiles None new files = Unit {0}
 AddsFiles (Some xs) None files = ⊥

@@ -11,7 +11,7 @@ IsReplayFault (NoWholeCall line) = Unit {0}
 IsReplayFault (NoText cpu) = Unit {0}
 IsReplayFault fault = ⊥
 
--- what is printed: what a play prints, and behind it the bytes of each buffer where they are wanted
+-- what is printed: what a play prints, and after it the bytes of each buffer where they are wanted
 abbrev pub replay_printed : Bool → Header → Replayed → List ℕ
 replay_printed true header replayed = printed_text header replayed.outcome ++ all_buffers header replayed.texts
 replay_printed false header replayed = printed_text header replayed.outcome

@@ -36,13 +36,13 @@ written_shares cpu h drops =
 
 module _ (uuid : List ℕ) (e : EnabledRows) (cpu : ℕ) where
   -- a packet for each batch, where so many reservations were refused before
-  abbrev pub packets_behind : ℕ → List ShareOf → List ℕ
-  packets_behind missed [] = []
-  packets_behind missed (s ∷ ss) = packet uuid e (missed + s.drops) cpu s.records ++ packets_behind (missed + s.drops) ss
+  abbrev pub packets_following : ℕ → List ShareOf → List ℕ
+  packets_following missed [] = []
+  packets_following missed (s ∷ ss) = packet uuid e (missed + s.drops) cpu s.records ++ packets_following (missed + s.drops) ss
 
   -- a CPU's file as taken
   abbrev pub file_as_taken : List Deed → ℕ → List ℕ
-  file_as_taken h drops = packets_behind 0 (written_shares cpu h drops)
+  file_as_taken h drops = packets_following 0 (written_shares cpu h drops)
 
   -- The bytes of a CPU's file; none where it has no file.
   abbrev pub IsFile : Form → List Deed → Report → List ℕ → Type 0

@@ -7,4 +7,4 @@ pub use Rattle.specview.specs.Folders.{AddsFiles, cpu_files, NamedFile, written_
 pub use Rattle.specview.specs.Pictures.{IsPictureFault, IsPlayPictureFault}
 pub use Rattle.specview.specs.Stepping.{IsStepsFault}
 pub use Rattle.specview.specs.Traces.{AreFiles, AreStreams, event_rows, greatest_epid, greatest_of, HasUnknown, HaveShortEvents, IsFileFault, IsOfNumbered, IsPlayTraceFault, missed_by}
-pub use Rattle.specview.specs.Traces.{packets_behind, refused_in, TellsSmall, written_shares}
+pub use Rattle.specview.specs.Traces.{packets_following, refused_in, TellsSmall, written_shares}

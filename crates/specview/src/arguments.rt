@@ -12,7 +12,7 @@ const VERSION: &str = "0.1.0";
 
 /// How the program is called.
 const USAGE: &str =
-    "specview ctf --output FOLDER [--by-time HERTZ] [SCHEDULE], specview picture [--output FILE] [SCHEDULE], specview steps [SCHEDULE], specview replay [--bytes] [SCHEDULE], specview folder [--check | --repair | --text | --json [--track FIELD] | --paths [--why LABEL] [--longer TIME] [--event NAME] | --path NUMBER] DIR ..";
+    "specview ctf --output FOLDER [--by-time HERTZ] [SCHEDULE], specview picture [--output FILE] [SCHEDULE], specview steps [SCHEDULE], specview replay [--bytes] [SCHEDULE], specview folder [--check | --repair | --text | --json [--track FIELD] | --paths [--why LABEL] [--longer TIME] [--event NAME] [--since TIME] [--follow [--for SECONDS]] | --path NUMBER | --html FILE | --otlp] DIR ..";
 
 /// A trace to be written.
 #[derive(Debug, Clone, Copy)]

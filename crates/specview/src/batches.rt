@@ -61,7 +61,7 @@ fn is_seal_of(cpu: u32, deed: &Deed) -> bool
     }
 }
 
-/// The batches with one more behind them, where it has something.
+/// The batches with one more after them, where it has something.
 pub fn with_last<'a>(
     mut found: Vec<Share<'a>>,
     last: Share<'a>,
@@ -75,7 +75,7 @@ pub fn with_last<'a>(
     Ok(found)
 }
 
-/// All batches of a CPU in order of time, of all its accepted records, and behind them what its buffer has at the end, where there
+/// All batches of a CPU in order of time, of all its accepted records, and after them what its buffer has at the end, where there
 /// is something.
 pub fn shares_of<'a>(
     alloc: Global,
@@ -93,9 +93,9 @@ pub fn shares_of<'a>(
     let mut drops: u64 = 0;
     for deed in deeds {
         if is_seal_of(cpu, deed) {
-            let (records, behind) = rest.split_at(count);
+            let (records, after) = rest.split_at(count);
             found.push(Share { drops, records })?;
-            rest = behind;
+            rest = after;
             count = 0;
             drops = 0;
             continue;

@@ -148,7 +148,7 @@ fn put_trace<F: TraceFiles>(alloc: Global, folder: &mut F, trace: &Trace) -> Res
     folder.put(alloc, "metadata", trace.metadata.as_str().as_bytes())
 }
 
-/// Writes a trace, the metadata last, since a folder without it is no trace; behind a fault nothing is left of it.
+/// Writes a trace, the metadata last, since a folder without it is no trace; after a fault nothing is left of it.
 pub fn write_trace<F: TraceFiles>(
     alloc: Global,
     folder: &mut F,

@@ -11,15 +11,15 @@
 //! `specview replay [--bytes] [SCHEDULE]` makes the calls of a schedule of whole calls on a session from one thread, where the consumer meets
 //! each CPU after each call, ends the session, and prints what the player prints: the answers, the reports and the streams, which it reads
 //! back from the texts of the batches taken and of what is left. So `examples/replay` shows that both answer alike. With `--bytes` it prints
-//! more behind that: for each CPU, and of it for each batch that was taken and for what is left, a line with the records and one with the
+//! more after that: for each CPU, and of it for each batch that was taken and for what is left, a line with the records and one with the
 //! bytes, each in two digits of base 16: `batch cpu 0 drops 0 records 1: 7` and `bytes cpu 0: 07 00 00 00`, of what is left `rest` for
 //! `batch`. A schedule that the player refuses it refuses with the player's line, and one with a line that is no whole call with a status of
 //! its own.
 //!
-//! `specview folder [--check | --repair | --text | --json [--track FIELD] | --paths | --path NUMBER] DIR ..` sums up trace
+//! `specview folder [--check | --repair | --text | --json [--track FIELD] | --paths | --path NUMBER | --html FILE | --otlp] DIR ..` sums up trace
 //! folders of ours, whoever wrote them; or checks them, by the definition of what their bytes say, and cuts off what a stopped writer left: both
-//! are of the crate `dspec_folder_view`. Or it tells or draws all that they have, merged by time, or tells the paths that a tracer kept: those
-//! are of `dspec_trace_view`.
+//! are of the crate `dspec_folder_view`. Or it tells or draws all that they have, merged by time, or tells the paths that a tracer kept, in a
+//! table, as a page, or as a collector of OpenTelemetry reads them: those are of `dspec_trace_view`. `--paths --follow` tells them as they come.
 //!
 //! | File | What is in it |
 //! |---|---|
@@ -51,7 +51,7 @@ use arguments::{PictureAsk, TraceAsk, ViewTask, ask_of};
 use dspec_command::{Input, ended, open, print_text, words_of};
 use dspec_folder_view::{FolderViewFault, count_folders, examine_folders};
 use dspec_replay::read_whole;
-use dspec_trace_view::{OutputFormat, show_folders};
+use dspec_trace_view::{OutputFormat, PathChoice, follow_paths, page_of_folders, show_folders};
 use fault::ViewFault;
 use folder::{OutputFolder, write_trace};
 use folder_asking::{FolderAsk, FolderTask};
@@ -63,6 +63,7 @@ use replaying::replay_text;
 use std::alloc::Global;
 use std::io::Read;
 use std::process::ExitCode;
+use std::sync::Wait;
 use stepped::steps_of_text;
 use trace::trace_of;
 
@@ -109,7 +110,7 @@ fn run_picture<'a>(rt: &HostRuntime, ask: &PictureAsk<'a>) -> Result<(), Program
     match ask.output {
         Some(name) => {
             see_other(rt, name, ask.schedule)?;
-            Ok(write_file(rt, name, picture.as_str())?)
+            Ok(write_file(rt, name, picture.as_str().as_bytes())?)
         }
         None => Ok(print_text(rt, picture.as_str())?),
     }
@@ -129,8 +130,37 @@ fn run_replay<'a>(rt: &HostRuntime, ask: &ReplayAsk<'a>) -> Result<(), ProgramFa
     Ok(print_text(rt, printed.as_str())?)
 }
 
+/// Writes the page of folders into a file, and says whether each of their files could be read to its end.
+fn write_page<'a>(
+    rt: &HostRuntime,
+    paths: &[&'a str],
+    file: &'a str,
+) -> Result<bool, FolderViewFault<'a>> {
+    let (page, is_sound) = page_of_folders(rt, paths)?;
+    write_file(rt, file, page.as_slice())?;
+    Ok(is_sound)
+}
+
+/// Tells the paths of a folder as they come.
+fn follow_folder<'a, W: Wait>(
+    waits: &W,
+    rt: &HostRuntime,
+    paths: &[&'a str],
+    choice: PathChoice<'a>,
+    seconds: Option<u64>,
+) -> Result<bool, FolderViewFault<'a>> {
+    match paths.first() {
+        Some(folder) => follow_paths(waits, rt, folder, choice, seconds),
+        None => Ok(true),
+    }
+}
+
 /// Shows or mends trace folders, and says whether nothing is wrong with them.
-fn run_folder<'a>(rt: &HostRuntime, ask: &FolderAsk<'a>) -> Result<bool, FolderViewFault<'a>> {
+fn run_folder<'a, W: Wait>(
+    waits: &W,
+    rt: &HostRuntime,
+    ask: &FolderAsk<'a>,
+) -> Result<bool, FolderViewFault<'a>> {
     let paths = ask.paths.as_slice();
     match ask.task {
         FolderTask::Count => count_folders(rt, paths),
@@ -140,18 +170,25 @@ fn run_folder<'a>(rt: &HostRuntime, ask: &FolderAsk<'a>) -> Result<bool, FolderV
         FolderTask::Json => show_folders(rt, paths, OutputFormat::Json),
         FolderTask::Tracks(field) => show_folders(rt, paths, OutputFormat::Tracks(field)),
         FolderTask::Paths(choice) => show_folders(rt, paths, OutputFormat::Paths(choice)),
+        FolderTask::Follow(choice, seconds) => follow_folder(waits, rt, paths, choice, seconds),
         FolderTask::Path(number) => show_folders(rt, paths, OutputFormat::Path(number)),
+        FolderTask::Spans => show_folders(rt, paths, OutputFormat::Spans),
+        FolderTask::Page(file) => write_page(rt, paths, file),
     }
 }
 
 /// Does what the words ask for, and says whether all is well.
-fn run<'a>(rt: &'a HostRuntime, words: &'a [String]) -> Result<bool, ProgramFault<'a>> {
+fn run<'a, W: Wait>(
+    waits: &W,
+    rt: &'a HostRuntime,
+    words: &'a [String],
+) -> Result<bool, ProgramFault<'a>> {
     match ask_of(rt.alloc(), words)? {
         ViewTask::Trace(ask) => run_ctf(rt, &ask)?,
         ViewTask::Picture(ask) => run_picture(rt, &ask)?,
         ViewTask::Steps(schedule) => run_steps(rt, schedule)?,
         ViewTask::Replay(ask) => run_replay(rt, &ask)?,
-        ViewTask::Folder(ask) => return Ok(run_folder(rt, &ask)?),
+        ViewTask::Folder(ask) => return Ok(run_folder(waits, rt, &ask)?),
         ViewTask::Text(text) => print_text(rt, text.as_str())?,
     }
     Ok(true)
@@ -160,7 +197,7 @@ fn run<'a>(rt: &'a HostRuntime, words: &'a [String]) -> Result<bool, ProgramFaul
 /// Shows by the words of the command line.
 fn main(rt: HostRuntime) -> ExitCode {
     match words_of(&rt) {
-        Ok(words) => ended(&rt, "specview", run(&rt, words.as_slice())),
+        Ok(words) => ended(&rt, "specview", run(&rt, &rt, words.as_slice())),
         Err(fault) => ended(&rt, "specview", Err(fault)),
     }
 }

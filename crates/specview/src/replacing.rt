@@ -1,4 +1,4 @@
-//! The file of a picture, which is made, or takes the place of the one that is there.
+//! The file of a picture or of a page, which is made, or takes the place of the one that is there.
 
 use crate::program::ProgramFault;
 use dspec_command::{CommandFault, device_fault};
@@ -27,16 +27,16 @@ pub fn see_other<'a>(
     Ok(())
 }
 
-/// Writes a text to an open file.
-fn write_text(mut file: File, text: &str) -> io::Result<()> {
-    file.write_all(text.as_bytes())
+/// Writes bytes to an open file.
+fn write_bytes(mut file: File, bytes: &[u8]) -> io::Result<()> {
+    file.write_all(bytes)
 }
 
-/// Writes a text beside the file of that path, and puts it into its place once it is whole.
-fn put_beside(rt: &HostRuntime, path: &str, text: &str) -> io::Result<()> {
+/// Writes bytes beside the file of that path, and puts it into its place once it is whole.
+fn put_beside(rt: &HostRuntime, path: &str, bytes: &[u8]) -> io::Result<()> {
     let beside = format!(in rt.alloc(); "{path}.new")?;
     let written = match File::create_new(rt, beside.as_str()) {
-        Ok(file) => write_text(file, text),
+        Ok(file) => write_bytes(file, bytes),
         Err(reason) => return Err(reason),
     };
     let ended = match written {
@@ -50,24 +50,28 @@ fn put_beside(rt: &HostRuntime, path: &str, text: &str) -> io::Result<()> {
 }
 
 /// The same of a file that is there; a link stays one.
-fn replace_file(rt: &HostRuntime, name: &str, text: &str) -> io::Result<()> {
+fn replace_file(rt: &HostRuntime, name: &str, bytes: &[u8]) -> io::Result<()> {
     let path = fs::canonicalize(rt, name)?;
-    put_beside(rt, path.to_str().unwrap_or(name), text)
+    put_beside(rt, path.to_str().unwrap_or(name), bytes)
 }
 
-/// Writes a text to what has that name: into a new file, which takes the place of an old one once it is whole; else, as to a device,
+/// Writes bytes to what has that name: into a new file, which takes the place of an old one once it is whole; else, as to a device,
 /// as it is.
-fn write_to(rt: &HostRuntime, name: &str, text: &str) -> io::Result<()> {
+fn write_to(rt: &HostRuntime, name: &str, bytes: &[u8]) -> io::Result<()> {
     match fs::metadata(rt, name) {
-        Ok(found) if found.is_file() => replace_file(rt, name, text),
-        Ok(_) => write_text(File::create(rt, name)?, text),
-        Err(_) => put_beside(rt, name, text),
+        Ok(found) if found.is_file() => replace_file(rt, name, bytes),
+        Ok(_) => write_bytes(File::create(rt, name)?, bytes),
+        Err(_) => put_beside(rt, name, bytes),
     }
 }
 
-/// Writes a text to the file of that name, which is made, or replaced once the new one is whole.
-pub fn write_file<'a>(rt: &HostRuntime, name: &'a str, text: &str) -> Result<(), CommandFault<'a>> {
-    match write_to(rt, name, text) {
+/// Writes bytes to the file of that name, which is made, or replaced once the new one is whole.
+pub fn write_file<'a>(
+    rt: &HostRuntime,
+    name: &'a str,
+    bytes: &[u8],
+) -> Result<(), CommandFault<'a>> {
+    match write_to(rt, name, bytes) {
         Ok(()) => Ok(()),
         Err(reason) => Err(device_fault(name, reason)),
     }

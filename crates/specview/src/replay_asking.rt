@@ -1,4 +1,4 @@
-//! What the words behind `specview replay` ask for.
+//! What the words after `specview replay` ask for.
 
 use crate::arguments::schedule_arg;
 use clap::{Arg, ArgAction, ArgMatches, Command};
@@ -18,7 +18,7 @@ pub fn replay_command<'a>(alloc: Global) -> Result<Command<'a>, AllocError> {
     let bytes = Arg::new(alloc, "bytes")
         .long("bytes")
         .action(ArgAction::SetTrue)
-        .help("print the bytes of each batch and of what is left behind its records");
+        .help("print the bytes of each batch and of what is left after its records");
     Command::new(alloc, "replay")
         .about("play a schedule of whole calls on a session, and print what the player prints")
         .arg(bytes)?

@@ -7,7 +7,7 @@ ghost use Rattle.dspec_schedule.specs.{Reading.HasOneHeader, Schedules.plan_of};
 ghost use Rattle.dspec_replay.specs.PlayedTexts.{IsPlayOf};
 ghost use Rattle.specview.specs.Batches.{TellsCounts, last_share, shares, shown_share};
 ghost use Rattle.specview.specs.Traces.{AllTellSmall, AreFiles, HaveShortEvents, AreStreams, IsFile, IsFileFault, IsFormFault, IsOfNumbered, IsPlayTrace, IsPlayTraceFault, TellsSmall, IsTraceFault};
-ghost use Rattle.specview.specs.Traces.{IsTraceOf, event_rows, file_as_taken, missed_by, packets_behind, refused_in, written_shares};
+ghost use Rattle.specview.specs.Traces.{IsTraceOf, event_rows, file_as_taken, missed_by, packets_following, refused_in, written_shares};
 
 use crate::batches::{Share, shares_of, with_last};
 use crate::clock::see_clock;
@@ -52,7 +52,7 @@ fn put_shares(
     requires counted { stream.missed + refused_in (map shown_share shares.now) < 2 ^ 64 }
     requires short { HaveShortEvents stream.enablings.now (map shown_share shares.now) }
     ensures { IfOk result (λ bytes. bytes.items
-        ≡ packets_behind stream.entry.uuid stream.entry.enablings.now stream.entry.cpu stream.entry.missed (map shown_share shares.now)) }
+        ≡ packets_following stream.entry.uuid stream.entry.enablings.now stream.entry.cpu stream.entry.missed (map shown_share shares.now)) }
 {
     let mut bytes = Vec::new(alloc);
     for share in shares {

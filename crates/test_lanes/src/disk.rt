@@ -25,8 +25,8 @@ fn has(rt: &HostRuntime, folder: &str, name: &str, text: &str) -> Result<bool, F
 }
 
 #[test]
-fn bytes_behind_bytes(rt: HostRuntime) -> Result<(), Fail> {
-    let path = free_path(&rt, "bytes_behind_bytes")?;
+fn bytes_after_bytes(rt: HostRuntime) -> Result<(), Fail> {
+    let path = free_path(&rt, "bytes_after_bytes")?;
     let mut folder = SystemFolder::new(&rt, path.as_str())?;
     folder.add(rt.alloc(), "metadata", b"text")?;
     folder.add(rt.alloc(), "cpu_0", b"one")?;

@@ -1,6 +1,6 @@
 //! The parts of a record that writes itself.
 use crate::same::same;
-use dspec_record::laid_out::{laid_shape, pack_behind, put_packed};
+use dspec_record::laid_out::{laid_shape, pack_after, put_packed};
 use dspec_record::{Field, Header, Shape};
 use std::test::Fail;
 
@@ -13,8 +13,8 @@ fn record_by_its_parts(rt: HostRuntime) -> Result<(), Fail> {
     let found = laid_shape(Header::Two, &[Field::One, Field::Two]);
     same(&rt, found, shape);
     let mut words = [0; 9];
-    let next = pack_behind(Field::One, 5, 4, &mut words);
-    let end = pack_behind(Field::Two, 515, next, &mut words);
+    let next = pack_after(Field::One, 5, 4, &mut words);
+    let end = pack_after(Field::Two, 515, next, &mut words);
     same(&rt, [next, end], [5, 8]);
     same(&rt, words, [WORD, 0, 0, 0, 0, 0, 0, 0, 0]);
     let mut text = [9; 16];

@@ -94,8 +94,8 @@ fn are_blocks(newer: u64, count: usize, older: u64, records: &[Rec]) -> bool {
     if records.len() < count {
         return false;
     }
-    let (first, behind) = records.split_at(count);
-    are_from(newer, first) && are_from(older, behind)
+    let (first, after) = records.split_at(count);
+    are_from(newer, first) && are_from(older, after)
 }
 
 /// Of 100 the last twelve: the eight of a full buffer, and the four after them. Each turn is a record that is offered twice.

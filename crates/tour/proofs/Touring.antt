@@ -19,7 +19,7 @@ use Rattle.dspec.specs.Passed.{AreFrom}
 use Rattle.dspec.specs.Serving.{ThenServed}
 use Rattle.dspec.specs.Traced.{IsTraced}
 use Rattle.dspec.proofs.KeptAll.{kept_all}
-use Rattle.dspec.proofs.Serving.{settled_behind, settled_by}
+use Rattle.dspec.proofs.Serving.{settled_after, settled_by}
 use Rattle.tour.specs.declared.Requests.{Requests}
 use Rattle.dspec_probe.specs.Probes.{IsProbeOf, epid_of_probe}
 use Rattle.tour.specs.Requests.{DoesRequests, MakesRequests, request_fields, touch_fields}
@@ -44,15 +44,15 @@ module _ (e : EnabledRows) (work : Requests) (k : Config) (old new : SinkRecords
       let seen : mine.seen ≡ records = sym (kept ∙ (all ∙ ap (λ (r : SinkRecords). r.records ++ mine.seen) begun)) in
       let deeds = traced.promised.deeds in
       let worked = traced.worked 0 first in
-      let behind = settled_by worked.served.services worked.returned (traced.calls 0) worked.served.serves in
+      let later = settled_by worked.served.services worked.returned (traced.calls 0) worked.served.serves in
       let closed = traced.promised.closed 0 in
       record {
         calls = worked.returned;
         worked = subst (λ n. MakesRequests 1 n no_calls worked.returned) touch-is
             (subst (λ n. MakesRequests n (epid_of_probe work.touch) no_calls worked.returned) request-is (worked.worked request-has touch-has));
-        settled = closed ++ behind.settled;
+        settled = closed ++ later.settled;
         all = all_did deeds;
-        answered = mine.answered ∙ settled_behind closed worked.returned (traced.calls 0) behind;
+        answered = mine.answered ∙ settled_after closed worked.returned (traced.calls 0) later;
         promise = subst (λ r. Promise 1 (all_did deeds) 0 records r) (sym (told l at))
             (subst (λ rs. Promise 1 (all_did deeds) 0 rs l.report) seen (subst (λ n. Promise n (all_did deeds) 0 mine.seen l.report) one mine.promise));
       }

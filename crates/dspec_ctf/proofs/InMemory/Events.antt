@@ -27,8 +27,8 @@ of_part n kinds Count is = is
 of_part n kinds (Metadata fault) is = is
 
 -- so many names after a place
-pub some_behind : {X A : Type 0} (f : X → A) (xs : List X) (n m : ℕ) → take m (map f (slice_range xs n (length xs))) ≡ take m (drop n (map f xs))
-some_behind f xs n m = ap (λ ys. take m ys) (ap (λ ys. map f ys) (rest_is xs n) ∙ sym (drop-map f n xs))
+pub some_after : {X A : Type 0} (f : X → A) (xs : List X) (n m : ℕ) → take m (map f (slice_range xs n (length xs))) ≡ take m (drop n (map f xs))
+some_after f xs n m = ap (λ ys. take m ys) (ap (λ ys. map f ys) (rest_is xs n) ∙ sym (drop-map f n xs))
 
 pub some_numbers : (xs : List ℕ) (n m : ℕ) → take m (slice_range xs n (length xs)) ≡ take m (drop n xs)
 some_numbers xs n m = ap (λ ys. take m ys) (rest_is xs n)
@@ -36,16 +36,16 @@ some_numbers xs n m = ap (λ ys. take m ys) (rest_is xs n)
 flat_map_push : {X A : Type 0} (f : X → List A) (xs : List X) (x : X) → flat_map f xs ++ f x ≡ flat_map f (xs ++ x ∷ [])
 flat_map_push f xs x = flat_map_more f [] xs x
 
-one_behind : {X A : Type 0} (f : X → List A) (xs : List X) (x : X) (ys : List A) (n m : ℕ) → take n ys ≡ flat_map f xs → f x ≡ take m (drop n ys) → take (n + m) ys ≡ flat_map f (xs ++ x ∷ [])
-one_behind f xs x ys n m front back =
+one_after : {X A : Type 0} (f : X → List A) (xs : List X) (x : X) (ys : List A) (n m : ℕ) → take n ys ≡ flat_map f xs → f x ≡ take m (drop n ys) → take (n + m) ys ≡ flat_map f (xs ++ x ∷ [])
+one_after f xs x ys n m front back =
     take-add n m ys ∙ (ap (λ zs. zs ++ take m (drop n ys)) front ∙ (ap (λ zs. flat_map f xs ++ zs) (sym back) ∙ flat_map_push f xs x))
 
 pub one_more : (names : List (List ℕ)) (kinds : List ℕ) (events : List ProbeNames) (event : ProbeNames) (n m k l : ℕ)
     → AreEvents (take n names) (take k kinds) events → texts_in event ≡ take m (drop n names) → kinds_in event ≡ take l (drop k kinds) → event.labels ≡ None
     → AreEvents (take (n + m) names) (take (k + l) kinds) (events ++ event ∷ [])
 one_more names kinds events event n m k l are texts numbers bare = record {
-  texts = one_behind texts_in events event names n m are.texts texts;
-  meaning = one_behind kinds_in events event kinds k l are.meaning numbers;
+  texts = one_after texts_in events event names n m are.texts texts;
+  meaning = one_after kinds_in events event kinds k l are.meaning numbers;
   bare = All-push (λ e. e.labels ≡ None) events event are.bare bare;
 }
 

@@ -27,20 +27,20 @@ after_missed f mid new p ps room filled h all =
     record { runs = all.runs; are_runs = all.are_runs; parts = none_of p ps (ap (λ q. q.records) h.packet_is) ∙ all.parts }
 
 -- the packet of a run is handed out: the files are these then
-behind_run : CpuFiling → Run → List ℕ → FilingRoom → CpuFiling
-behind_run f run lasts roomy = record (as_written f) { lasts = lasts; place = run.end; run = None; room = roomy }
+once_run : CpuFiling → Run → List ℕ → FilingRoom → CpuFiling
+once_run f run lasts roomy = record (as_written f) { lasts = lasts; place = run.end; run = None; room = roomy }
 
-is_behind : (f mid : CpuFiling) (p : Packet) (room filled : List ℕ) (h : FindsAndHands (as_written f) room p filled mid) → mid ≡ behind_run f h.run h.finds.lasts mid.room
-unfolding behind_run
-is_behind f mid p room filled h = h.hands.is ∙ ap (λ (x : CpuFiling). record x { place = h.run.end; run = None; room = mid.room }) h.finds.is
+is_after : (f mid : CpuFiling) (p : Packet) (room filled : List ℕ) (h : FindsAndHands (as_written f) room p filled mid) → mid ≡ once_run f h.run h.finds.lasts mid.room
+unfolding once_run
+is_after f mid p room filled h = h.hands.is ∙ ap (λ (x : CpuFiling). record x { place = h.run.end; run = None; room = mid.room }) h.finds.is
 
 is_run_of : (f mid : CpuFiling) (p : Packet) (room filled : List ℕ) → f.run ≡ None → (h : FindsAndHands (as_written f) room p filled mid)
     → IsFileRun f.lasts f.records f.place h.run h.finds.lasts
 is_run_of f mid p room filled none h = subst (λ o. IsFoundRun o (as_written f) h.run h.finds.lasts) none h.finds.is_run
 
 after_run : (f mid new : CpuFiling) (p : Packet) (ps : List Packet) (room filled : List ℕ) → f.run ≡ None → (h : FindsAndHands (as_written f) room p filled mid)
-    → HaveAllLeft (behind_run f h.run h.finds.lasts mid.room) ps new → HaveAllLeft f (p ∷ ps) new
-unfolding behind_run
+    → HaveAllLeft (once_run f h.run h.finds.lasts mid.room) ps new → HaveAllLeft f (p ∷ ps) new
+unfolding once_run
 after_run f mid new p ps room filled none h all =
     let run = h.run in
     let is_run = is_run_of f mid p room filled none h in
@@ -50,7 +50,7 @@ after_run f mid new p ps room filled none h all =
     record { runs = run ∷ all.runs; are_runs = (h.finds.lasts, (is_run, all.are_runs)); parts = first ∙ ap (λ rs. (run.file, run.end - f.place) ∷ rs) all.parts }
 
 pub have_all : (f new : CpuFiling) (ps : List Packet) → f.run ≡ None → f.place ≤ length f.records → PutsPackets f ps new → IsAllHanded new → HaveAllLeft f ps new
-unfolding told_all behind_run
+unfolding told_all once_run
 have_all f new [] none within is done =
     let all : length f.records ≤ f.place = subst (λ (m : CpuFiling). length m.records ≤ m.place) is done.1 in
     let to : length f.records ≡ f.place = omega (arith, all, within) in
@@ -60,4 +60,4 @@ have_all f new (p ∷ ps) none within (room, (filled, (mid, (inl (todo, h), rest
 have_all f new (p ∷ ps) none within (room, (filled, (mid, (inr h, rest)))) done =
     let is_run = is_run_of f mid p room filled none h in
     after_run f mid new p ps room filled none h
-    (have_all (behind_run f h.run h.finds.lasts mid.room) new ps refl is_run.within (subst (λ m. PutsPackets m ps new) (is_behind f mid p room filled h) rest) done)
+    (have_all (once_run f h.run h.finds.lasts mid.room) new ps refl is_run.within (subst (λ m. PutsPackets m ps new) (is_after f mid p room filled h) rest) done)

@@ -52,20 +52,20 @@ module _ (layout : Layout) (uuid : List ℕ) (cpu : ℕ) where
   sound-nil last [] none = record { packets = []; read = refl; whose = All-nil (λ p. (p.uuid ≡ uuid) × (p.cpu ≡ cpu)); rises = tt }
   sound-nil last (b ∷ rest) none = absurd (omega (arith, none))
 
-  pub sound-step : (last : ℕ) (rest behind : List ℕ) (p : PacketRead) → 0 < length rest → read_packet layout rest ≡ Some (p, behind) → p.uuid ≡ uuid → p.cpu ≡ cpu → RisesFrom last (times_of p)
-      → IsSoundFrom layout uuid cpu (last_of last (times_of p)) behind → IsSoundFrom layout uuid cpu last rest
-  sound-step last rest behind p some is of_uuid of_cpu rises sound =
+  pub sound-step : (last : ℕ) (rest after : List ℕ) (p : PacketRead) → 0 < length rest → read_packet layout rest ≡ Some (p, after) → p.uuid ≡ uuid → p.cpu ≡ cpu → RisesFrom last (times_of p)
+      → IsSoundFrom layout uuid cpu (last_of last (times_of p)) after → IsSoundFrom layout uuid cpu last rest
+  sound-step last rest after p some is of_uuid of_cpu rises sound =
       grind (arith, nat_tests, packets-on-bytes layout rest some, rises-append last (times_of p) (flat_map times_of sound.packets) rises sound.rises)
 
-  pub record Back (last : ℕ) (behind : List ℕ) (p : PacketRead) : Type 0 where
+  pub record Back (last : ℕ) (after : List ℕ) (p : PacketRead) : Type 0 where
     pub of_uuid : p.uuid ≡ uuid
     pub of_cpu : p.cpu ≡ cpu
     pub rises : RisesFrom last (times_of p)
-    pub sound : IsSoundFrom layout uuid cpu (last_of last (times_of p)) behind
+    pub sound : IsSoundFrom layout uuid cpu (last_of last (times_of p)) after
 
-  pub sound-back : (last : ℕ) (rest behind : List ℕ) (p : PacketRead) → 0 < length rest → read_packet layout rest ≡ Some (p, behind) → IsSoundFrom layout uuid cpu last rest → Back last behind p
-  sound-back last rest behind p some is sound =
-      let two = some-parts p (read_file layout behind) sound.packets (sym (ap (file_by layout) is) ∙ sym (packets-on-bytes layout rest some) ∙ sound.read) in
+  pub sound-back : (last : ℕ) (rest after : List ℕ) (p : PacketRead) → 0 < length rest → read_packet layout rest ≡ Some (p, after) → IsSoundFrom layout uuid cpu last rest → Back last after p
+  sound-back last rest after p some is sound =
+      let two = some-parts p (read_file layout after) sound.packets (sym (ap (file_by layout) is) ∙ sym (packets-on-bytes layout rest some) ∙ sound.read) in
       let whose : All (λ q. (q.uuid ≡ uuid) × (q.cpu ≡ cpu)) (p ∷ two.0) = subst (All (λ q. (q.uuid ≡ uuid) × (q.cpu ≡ cpu))) (sym two.1.1) sound.whose in
       let rises : RisesFrom last (times_of p ++ flat_map times_of two.0) = subst (λ ps. RisesFrom last (flat_map times_of ps)) (sym two.1.1) sound.rises in
       let first = All-head (λ q. (q.uuid ≡ uuid) × (q.cpu ≡ cpu)) p two.0 whose in

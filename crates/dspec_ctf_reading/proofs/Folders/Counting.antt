@@ -94,14 +94,14 @@ one-more : (ps : List PacketRead) (p : PacketRead) (o : Option (List PacketRead)
 one-more ps p None = refl
 one-more ps p (Some more) = ap Some (sym (append_assoc ps (p ∷ []) more))
 
-pub counted-more : (layout : Layout) (bytes rest behind : List ℕ) (p : ReadPacket) (old mid new : CpuCounts) → 0 < length rest → CountedTo layout bytes rest old mid
-    → read_packet layout rest ≡ Some (packet_as_read layout p, behind) → All (Fits layout) p.events.items → CountsPacket old.missed p mid new → CountedTo layout bytes behind old new
-counted-more layout bytes rest behind p old mid new some counted is fit more =
+pub counted-more : (layout : Layout) (bytes rest after : List ℕ) (p : ReadPacket) (old mid new : CpuCounts) → 0 < length rest → CountedTo layout bytes rest old mid
+    → read_packet layout rest ≡ Some (packet_as_read layout p, after) → All (Fits layout) p.events.items → CountsPacket old.missed p mid new → CountedTo layout bytes after old new
+counted-more layout bytes rest after p old mid new some counted is fit more =
     grind (
       arith,
       nat_tests,
       packets-on-bytes layout rest some,
-      one-more counted.packets (packet_as_read layout p) (read_file layout behind),
+      one-more counted.packets (packet_as_read layout p) (read_file layout after),
       adds-more layout counted.packets p old mid new counted.adds fit more,
     )
 

@@ -6,7 +6,7 @@ use Rattle.dspec_ctf_reading.specs.{declared.folder.whole.Ending.TheVariants.Cut
 -- the bytes are these packets, one after another, and then the rest
 abbrev pub SplitsInto : Bool → List ℕ → List PacketSplit → List ℕ → Type 0
 SplitsInto timed bytes [] rest = bytes ≡ rest
-SplitsInto timed bytes (packet ∷ packets) rest = (split_packet timed bytes ≡ Some packet) × SplitsInto timed packet.behind packets rest
+SplitsInto timed bytes (packet ∷ packets) rest = (split_packet timed bytes ≡ Some packet) × SplitsInto timed packet.after packets rest
 
 -- the bytes are whole packets, and then the rest
 pub record AreWholeBefore (timed : Bool) (bytes rest : List ℕ) : Type 0 where

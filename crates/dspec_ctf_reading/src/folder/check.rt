@@ -159,7 +159,7 @@ pub fn check_file(
             Ok(now) => now,
             Err(fault) => return Err(fault),
         };
-        rest = packet.behind;
+        rest = packet.after;
     }
     Ok(())
 }

@@ -137,7 +137,7 @@ pub fn count_file(
                 wrong: Wrong::TooMuch,
             });
         }
-        rest = packet.behind;
+        rest = packet.after;
     }
     Ok(())
 }

@@ -82,7 +82,7 @@ pub fn marks_of(
             Ok(packet) => packet,
             Err(fault) => return Ok(Some(fault)),
         };
-        rest = packet.behind;
+        rest = packet.after;
         let discarded = packet.front.discarded;
         put_packet(marks, metadata, base, file, missed, packet)?;
         missed = discarded;

@@ -17,7 +17,7 @@ pub struct ReadPacket<'b> {
     /// Where its events begin in its file, in bytes.
     pub body_at: usize,
     /// The bytes after it.
-    pub behind: &'b [u8],
+    pub after: &'b [u8],
 }
 
 /// The packet with which these bytes begin, which begin at this byte of their file.
@@ -27,10 +27,10 @@ pub fn read_packet<'b>(
     at: usize,
     bytes: &'b [u8],
 ) -> Result<ReadPacket<'b>, FileFault>
-    ensures read { IfOk result (λ packet. packet_from (told_layout metadata.now) bytes.now ≡ Some (packet_as_read (told_layout metadata.now) packet, packet.behind.now)) }
+    ensures read { IfOk result (λ packet. packet_from (told_layout metadata.now) bytes.now ≡ Some (packet_as_read (told_layout metadata.now) packet, packet.after.now)) }
     ensures none { IfErr result (λ fault. IsTrue (is_of_bytes fault.wrong) → packet_from (told_layout metadata.now) bytes.now ≡ None) }
     ensures fit { IfOk result (λ packet. All (Fits (told_layout metadata.now)) packet.events.items) }
-    ensures shorter { IfOk result (λ packet. length packet.behind.now < length bytes.now) }
+    ensures shorter { IfOk result (λ packet. length packet.after.now < length bytes.now) }
 {
     let packet = match next_packet(metadata.clock.is_some(), bytes) {
         Ok(packet) => packet,
@@ -48,7 +48,7 @@ pub fn read_packet<'b>(
             front: packet.front,
             events,
             body_at,
-            behind: packet.behind,
+            after: packet.after,
         }),
         Err(fault) => Err(FileFault {
             at: body_at.saturating_add(fault.at),

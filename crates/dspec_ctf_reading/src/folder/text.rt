@@ -138,7 +138,7 @@ fn put_first(out: &mut String, bytes: &[u8], is_quoted: bool) -> Result<usize, A
 }
 
 /// The bytes after so many of these.
-fn bytes_behind(bytes: &[u8], count: usize) -> &[u8] {
+fn bytes_after(bytes: &[u8], count: usize) -> &[u8] {
     if count > bytes.len() {
         return &[];
     }
@@ -160,7 +160,7 @@ fn put_text(
             return Ok(());
         }
         let count = put_first(out, rest, is_quoted)?;
-        rest = bytes_behind(rest, count);
+        rest = bytes_after(rest, count);
     }
     Ok(())
 }

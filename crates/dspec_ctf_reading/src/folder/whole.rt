@@ -15,7 +15,7 @@ pub fn whole_len(timed: bool, bytes: &[u8]) -> usize
 {
     let mut rest = bytes;
     while let Some(packet) = split_packet(timed, rest) {
-        rest = packet.behind;
+        rest = packet.after;
     }
     bytes.len() - rest.len()
 }
@@ -34,13 +34,13 @@ pub enum Ending {
 /// Whether a packet's header of this trace stands in these bytes, at whatever byte: the format's number and the trace's uuid.
 fn has_header(uuid: &[u8; 16], bytes: &[u8]) -> bool {
     let mut rest = bytes;
-    while let Some((_, behind)) = rest.split_first() {
+    while let Some((_, next)) = rest.split_first() {
         if let Some(after) = rest.strip_prefix(&[0xC1, 0x1F, 0xFC, 0xC1]) {
             if after.starts_with(uuid) {
                 return true;
             }
         }
-        rest = behind;
+        rest = next;
     }
     false
 }
@@ -51,13 +51,13 @@ pub fn ending_of(timed: bool, uuid: &[u8; 16], bytes: &[u8]) -> Ending
 {
     let at = whole_len(timed, bytes);
     let rest = &bytes[at..];
-    let Some((_, behind)) = rest.split_first() else {
+    let Some((_, next)) = rest.split_first() else {
         return Ending::Whole;
     };
     match next_packet(timed, rest) {
         Ok(_) => Ending::Whole,
-        Err(fault @ (PacketReadFault::Cut | PacketReadFault::BehindFile(_))) => {
-            if has_header(uuid, behind) || whole_len(timed, &bytes[..at]) != at {
+        Err(fault @ (PacketReadFault::Cut | PacketReadFault::AfterFile(_))) => {
+            if has_header(uuid, next) || whole_len(timed, &bytes[..at]) != at {
                 return Ending::Broken(at, fault);
             }
             Ending::Cut(at)

@@ -22,7 +22,7 @@ pub use Rattle.dspec_table.specs.declared.rule.View.{View}
 pub use Rattle.dspec_ring.specs.Words.{Pair}
 pub use Rattle.dspec_ring.specs.declared.batch.Batch.{Batch}
 pub use Rattle.dspec_cpu.specs.Words.{buffers_of, calls_of, config_of, CpuIdentity, decided_deeds, identity, is_worn_opening, IsCallable, misses, number_in, opening_deeds, schema_of, seat_of}
-pub use Rattle.dspec_cpu.specs.Words.{Serves, SettledBehind, SettledSlots, spoken_deeds, traced_deeds, with_seal, words_of, worn_of}
+pub use Rattle.dspec_cpu.specs.Words.{Serves, SettledAfter, SettledSlots, spoken_deeds, traced_deeds, with_seal, words_of, worn_of}
 pub use Rattle.dspec_cpu.specs.declared.cpu.Cpu.{Cpu}
 pub use Rattle.dspec_cpu.specs.declared.shared.Shared.{Shared}
 pub use Rattle.dspec_session_core.specs.Words.{Asked, Cleaned, Consuming, FoundNone, GaveBack, Has, HasAt, IsClosedBy, IsConsumerOf, IsCpuOf, IsFresh, IsLeftBy, IsNotTakenBack, IsSameConsumer}

@@ -90,9 +90,9 @@ fn kinds_of_tuples(rt: HostRuntime) -> Result<(), Fail> {
     let [names] = probes.names() else {
         return Err(Fail::from("one name"));
     };
-    let [a, b, c, behind, ..] = names.kinds;
+    let [a, b, c, after, ..] = names.kinds;
     let wanted = [Kind::Signed, Kind::Unsigned, Kind::Float, Kind::Unsigned];
-    same(&rt, [a, b, c, behind], wanted);
+    same(&rt, [a, b, c, after], wanted);
     assert!(rt; names.labels.is_none());
     Ok(())
 }

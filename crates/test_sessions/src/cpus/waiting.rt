@@ -100,7 +100,7 @@ stream cpu 0: 1 2
     // A spare is found while a batch is held back, which no other may replace: nothing is sealed. The spare is kept, and taken by
     // the service that hands the batch on.
     Row {
-        name: "spare-behind-a-batch-in-hand",
+        name: "spare-after-a-batch-in-hand",
         asked: 9,
         lent: &[8, 8],
         stock: &[8],
@@ -145,7 +145,7 @@ stream cpu 0: 1 2 3 4
     // After a batch held back a buffer of another size is no spare either. What was found then is kept, and at the end the batch in
     // hand stands in front of what grew last.
     Row {
-        name: "other-size-behind-a-batch-in-hand",
+        name: "other-size-after-a-batch-in-hand",
         asked: 9,
         lent: &[8, 8],
         stock: &[16, 8],

@@ -21,7 +21,7 @@ fn endings(rt: HostRuntime) -> Result<(), Fail> {
     let mut longer = FILE;
     longer[42] = 1;
     longer[50] = 1;
-    let broken = Ending::Broken(0, PacketReadFault::BehindFile(66_200));
+    let broken = Ending::Broken(0, PacketReadFault::AfterFile(66_200));
     same(&rt, ending_of(true, &UUID, &longer), broken);
     longer[83] = 0;
     same(&rt, ending_of(true, &UUID, &longer), Ending::Cut(0));

@@ -193,12 +193,12 @@ fn other_types(rt: HostRuntime) -> Result<(), Fail> {
 
 #[test]
 fn other_names(rt: HostRuntime) -> Result<(), Fail> {
-    let behind_name = Expected::Text("\";\n\tstream_id = 0;\n\tfields := struct {\n");
+    let after_name = Expected::Text("\";\n\tstream_id = 0;\n\tfields := struct {\n");
     let rows = [
         (" delta", " -delta", 60, Expected::Name),
         (" delta", " del-ta", 60, Expected::Text(";\n")),
         ("\tid = 2", "\tid = two", 66, Expected::Number),
-        ("epid_2", "epid\\2", 67, behind_name),
+        ("epid_2", "epid\\2", 67, after_name),
         ("epid_2", "", 67, Expected::Quoted),
     ];
     all_misread(&rt, &rows)
@@ -207,9 +207,9 @@ fn other_names(rt: HostRuntime) -> Result<(), Fail> {
 #[test]
 fn ends_of_texts(rt: HostRuntime) -> Result<(), Fail> {
     let end = "\tname = \"epid_2\";\n\tstream_id = 0;\n\tfields := struct {\n\t};\n};\n";
-    let behind_end = format!(in rt.alloc(); "{end}x")?;
+    let after_end = format!(in rt.alloc(); "{end}x")?;
     let event = Expected::Text("\nevent {\n\tid = ");
-    misread(&rt, end, behind_end.as_str(), 72, event)?;
+    misread(&rt, end, after_end.as_str(), 72, event)?;
     let cut = "\tname = \"epid_2\";\n\tstream_id = 0;\n\tfields := struct {\n\t};\n};";
     misread(&rt, end, cut, 70, Expected::Text("\t\t"))?;
     let found = read_metadata(rt.alloc(), b"").err();

@@ -44,7 +44,7 @@ fn written_and_read(rt: HostRuntime) -> Result<(), Fail> {
     same(&rt, metadata.events.len(), 3);
     let packet = next_packet(false, &bytes)?;
     same(&rt, packet.front.discarded, 5);
-    same(&rt, packet.behind.len(), 0);
+    same(&rt, packet.after.len(), 0);
     let events = read_events(rt.alloc(), &metadata, packet.body)?;
     same(&rt, events.len(), 3);
     same_event(&rt, events.get(0), 0, None, &[]);
@@ -106,26 +106,26 @@ fn refused_sizes(rt: HostRuntime) {
     refused(&rt, 32, 89, PacketReadFault::PacketWithinByte(601));
     let found = next_packet(false, &sized(152, 1)).err();
     same(&rt, found, Some(PacketReadFault::BeforeEvents(408)));
-    let behind = PacketReadFault::BehindPacket {
+    let after = PacketReadFault::AfterPacket {
         content: 608,
         packet: 600,
     };
-    refused(&rt, 24, 96, behind);
+    refused(&rt, 24, 96, after);
     let found = next_packet(false, &sized(96, 2)).err();
-    same(&rt, found, Some(PacketReadFault::BehindFile(608)));
+    same(&rt, found, Some(PacketReadFault::AfterFile(608)));
 }
 
 #[test]
 fn told_sizes(rt: HostRuntime) -> Result<(), Fail> {
-    let behind = PacketReadFault::BehindPacket {
+    let after = PacketReadFault::AfterPacket {
         content: 608,
         packet: 600,
     };
-    let mut text = format!(in rt.alloc(); "{behind}\n")?;
+    let mut text = format!(in rt.alloc(); "{after}\n")?;
     write!(text, "{}\n", PacketReadFault::ContentWithinByte(599))?;
     write!(text, "{}\n", PacketReadFault::PacketWithinByte(601))?;
     write!(text, "{}\n", PacketReadFault::BeforeEvents(408))?;
-    write!(text, "{}\n", PacketReadFault::BehindFile(608))?;
+    write!(text, "{}\n", PacketReadFault::AfterFile(608))?;
     let wanted =
         "content of 608 bits ends after its packet of 600\ncontent of 599 bits ends within a byte\na packet of 601 bits ends within a byte\ncontent of 408 bits ends before the events\na packet of 608 bits ends after the file\n";
     same(&rt, text.as_str(), wanted);
@@ -147,13 +147,13 @@ fn filled_packets(rt: HostRuntime) -> Result<(), Fail> {
     let bytes = filled();
     let packet = check_packet(&metadata, &bytes)?;
     same(&rt, packet.body == &PACKET[52..], true);
-    same(&rt, packet.behind, &bytes[80..]);
+    same(&rt, packet.after, &bytes[80..]);
     same(&rt, check_events(&metadata, packet.body)?, 3);
     let Some(short) = bytes.get(..79) else {
         return Err("80 bytes and more".into());
     };
     let found = next_packet(false, short).err();
-    same(&rt, found, Some(PacketReadFault::BehindFile(640)));
+    same(&rt, found, Some(PacketReadFault::AfterFile(640)));
     Ok(())
 }
 
@@ -165,8 +165,8 @@ fn whole_packets(rt: HostRuntime) -> Result<(), Fail> {
     same(&rt, packet.body.len(), 23);
     same(&rt, check_events(&metadata, packet.body)?, 3);
     let found = check_packet(&metadata, &PACKET[..74]).err();
-    let behind = PacketReadFault::BehindFile(600);
-    same(&rt, found, Some(WholePacketFault::Packet(behind)));
+    let after = PacketReadFault::AfterFile(600);
+    same(&rt, found, Some(WholePacketFault::Packet(after)));
     Ok(())
 }
 

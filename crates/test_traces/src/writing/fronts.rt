@@ -16,7 +16,7 @@ fn fronts_of_packets(rt: HostRuntime) -> Result<(), Fail> {
     same(&rt, packet.front.discarded, 5);
     same(&rt, packet.front.cpu, 1);
     same(&rt, packet.body.len(), 23);
-    same(&rt, packet.behind.is_empty(), true);
+    same(&rt, packet.after.is_empty(), true);
     let Some((front, rest)) = read_front(true, &by_time::PACKET) else {
         return Err(Fail::from(AllocError));
     };

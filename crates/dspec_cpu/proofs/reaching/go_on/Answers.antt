@@ -1,7 +1,7 @@
 use Rattle.std.proofs.Common.{◌≡◌, ◌∙◌, ℕ, not, refl, sym, subst}
 use Rattle.dspec_cpu.specs.{Words.IsInFlight, Words.known, Words.set_up, Words.cpu_of, Words.LoadedActivity, Words.Reached, Words.EndsAtWord, Words.act_reached, declared.reaching.Reach.Reach}
 use Rattle.dspec_cpu.specs.declared.reaching.Reach.TheVariants as reach
-use Rattle.dspec_cpu.proofs.{ReachDeeds.never_idle, Reaches.at_stop, Reaches.outside, Reaches.flight, Reaches.behind, Reaches.is_running, Reaches.void_running, Reaches.at_seat}
+use Rattle.dspec_cpu.proofs.{ReachDeeds.never_idle, Reaches.at_stop, Reaches.outside, Reaches.flight, Reaches.reached_after, Reaches.is_running, Reaches.void_running, Reaches.at_seat}
 use Rattle.dspec_cpu.proofs.{reaching.go_on.Given.Over, reaching.go_on.Goals.After-work}
 use Rattle.dspec_cpu.proofs.reaching.go_on.Goals as goal
 
@@ -38,7 +38,7 @@ at_word g c r ended running =
     let k = set_up c.args.words.now in
     let u = known c.load_activity.new.self in
     let step = subst (λ b. LoadedActivity g.J.HasDoing.doing (known seat) (not b) u) c.if-not-load_activity.false c.load_activity.ensures.step in
-    behind k (cpu_of seat) g.J.HasDoing.doing c.args.id (known seat) c.requires.seat.1 seat.who_is c.requires.on u (sym c.requires.inside ∙ c.if-not-inside.false) step r (known c.work.new.seat)
+    reached_after k (cpu_of seat) g.J.HasDoing.doing c.args.id (known seat) c.requires.seat.1 seat.who_is c.requires.on u (sym c.requires.inside ∙ c.if-not-inside.false) step r (known c.work.new.seat)
     (at_seat k g.J.HasDoing.doing c.args.id u (act_reached r) (known c.work.new.seat) _ _ _ _ c.load_activity.ensures.seat.1 c.slot.ensures.value ended) running
 
 pub returns-in-Attempt-clause-reached : goal.returns-in-Attempt-clause-reached

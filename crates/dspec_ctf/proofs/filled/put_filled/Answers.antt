@@ -15,7 +15,7 @@ loop-place-preserved c =
     let after = c.if-front-len-gt-PACKET_SIZE in
     let whole : List ℕ = c.args.out.now.items ++ filled_packets c.args.timed e s.uuid s.missed s.cpu recs in
     let at : IsFilledTo c.args.timed e s.uuid s.missed s.cpu recs whole l.out.items l.body.items l.from l.place =
-    record { behind = l.invariant.behind; body_is = l.invariant.body; fits = l.invariant.fits; written = l.invariant.written } in
+    record { after = l.invariant.after; body_is = l.invariant.body; fits = l.invariant.fits; written = l.invariant.written } in
     let more : c.put_event.new.out.items ≡ l.body.items ++ event e (get_or recs l.place one) =
     c.in_ok-put_event.ensures.bytes ∙ ap (λ r. l.body.items ++ event e r) c.index-recs-place.is in
     let next : IsFilledTo c.args.timed e s.uuid s.missed s.cpu recs whole after.out.items after.body.items after.from (l.place + 1) =
@@ -45,7 +45,7 @@ loop-place-preserved c =
           grind (arith, w.body-is, w.in_ok-put_event-2.ensures.capacity, w.clear.ensures.capacity, c.in_ok-put_event.ensures.capacity, l.invariant.body_room)
       | else-front-len-gt-PACKET_SIZE w ↦ grind (arith, w.body-is, c.in_ok-put_event.ensures.capacity, l.invariant.body_room)
     ] in
-    record { behind = next.behind; body = next.body_is; fits = next.fits; room = roomy; body_room = body_roomy; written = next.written }
+    record { after = next.after; body = next.body_is; fits = next.fits; room = roomy; body_room = body_roomy; written = next.written }
 
 -- an error tells what is so
 on_err : {A E : Type 0} (r : Result A E) (P : Type 0) → P → OnErr r P

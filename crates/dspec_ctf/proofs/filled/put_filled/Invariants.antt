@@ -7,7 +7,7 @@ use Rattle.dspec_ctf.proofs.filled.put_filled.Given as goal
 -- The packet that isn't ended holds the records from a place on, whose events the body has; with it and the records to come, all packets are written.
 abbrev pub invariant-loop-place : goal.invariant-loop-place
 invariant-loop-place l = record {
-  behind : l.from ≤ l.place;
+  after : l.from ≤ l.place;
   body : l.body.items ≡ events l.stream.enablings.now (slice_range l.recs l.from l.place);
   fits : front_by l.timed + length l.body.items ≤ filled_size;
   room : vec_capacity l.initial.out ≤ vec_capacity l.out;

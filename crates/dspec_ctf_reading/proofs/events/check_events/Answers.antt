@@ -1,6 +1,6 @@
 use Rattle.std.proofs.Common.{rules, arith, ◌≡◌, ◌<◌, Some, length, option_map}
 use Rattle.dspec_ctf_reading.specs.Words.{read_event, read_events, told_layout}
-use Rattle.dspec_ctf_reading.proofs.EventLemmas.{behind-one-more, count-more}
+use Rattle.dspec_ctf_reading.proofs.EventLemmas.{after-one-more, count-more}
 use Rattle.dspec_ctf_reading.proofs.events.check_events.Goals as goal
 
 pub loop-rest-preserved : goal.loop-rest-preserved
@@ -11,6 +11,6 @@ loop-rest-preserved c =
       so_far =
           count-more (told_layout c.args.metadata.now) c.loop-rest.count (option_map length (read_events (told_layout c.args.metadata.now) c.args.body.now))
           c.loop-rest.rest.now c.in-Ok.next.now some c.loop-rest.invariant.so_far read;
-      reached = behind-one-more (told_layout c.args.metadata.now) c.loop-rest.count c.args.body.now c.loop-rest.rest.now c.in-Ok.next.now c.loop-rest.invariant.reached read;
+      reached = after-one-more (told_layout c.args.metadata.now) c.loop-rest.count c.args.body.now c.loop-rest.rest.now c.in-Ok.next.now c.loop-rest.invariant.reached read;
       within = omega (arith, c.in-Ok.ensures.shorter);
     }

@@ -1,7 +1,7 @@
 -- The header is written first; then each field finds the room that the layout left for it.
 use Rattle.std.proofs.Common.{◌≡◌, ◌≤◌, ◌<◌, ◌+◌, ◌++◌, ℕ, List, length, take, drop, get_or, arith, sym, ◌∙◌, ap, subst, [], ◌∷◌}
 use Rattle.std.proofs.lemmas.List.{drop_more, drop_all}
-use Rattle.dspec_record.specs.Words.{width, after, fields_start, layout, Record, little_endian, gap, record_text, header-within, IsClearBehind}
+use Rattle.dspec_record.specs.Words.{width, after, fields_start, layout, Record, little_endian, gap, record_text, header-within, IsClearAfter}
 use Rattle.dspec_record.specs.declared.{field.Field.Field, field.Field.TheVariants.One, header.Header.Header}
 use Rattle.dspec_record.proofs.{Fitting.fits-length, Places.IsPlaced, Places.IsPlaced-start, Places.IsPlaced-place, Places.IsPlaced-next, Places.length-field_places, Writing.IsWriting}
 use Rattle.dspec_record.proofs.{Writing.IsWriting-start, Writing.IsWriting-room, Writing.IsWriting-next, Writing.IsWriting-end}
@@ -82,7 +82,7 @@ loop-i-preserved g c =
     let within : i < length fs = omega (arith, many) in
     let same : c.put_field-end.result ≡ after end (width f) (width f) = c.put_field-end.ensures.end in
     let Put : ℕ → Type 0 = λ e. take e out ≡ take end c.loop-i.out ++ (gap end (width f) ++ little_endian (width f) v) in
-    let Clear : ℕ → Type 0 = λ e. IsClearBehind e out in
+    let Clear : ℕ → Type 0 = λ e. IsClearAfter e out in
     let Next : ℕ → Type 0 = λ e. IsWriting text size e out (drop (i + 1) fs) (drop (i + 1) vs) in
     let Placed : ℕ → Type 0 = λ e. IsPlaced c.stamp_size-moved.result e (drop (i + 1) fs) (drop (i + 1) c.args.places.now) in
     let next : IsWriting text size (after end (width f) (width f)) out (drop (i + 1) fs) (drop (i + 1) vs) =

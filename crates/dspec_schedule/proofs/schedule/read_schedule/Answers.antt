@@ -3,7 +3,7 @@ use Rattle.std.proofs.lemmas.{Iterator.Consumers.YieldsList-at, Iterator.Consume
 use Rattle.std.proofs.lemmas.{Iterator.Splits.YieldsList-from_slice_split, List.map-append, List.length-map, Result.err_from_is_err_and}
 use Rattle.std.specs.List.{slice_split}
 use Rattle.dspec_schedule.specs.Words.{plan_of}
-use Rattle.dspec_schedule.proofs.{EndLemmas.behind-more, EndLemmas.cut_at, LineLemmas.lines_read-more, LineLemmas.schedule_of-fault, LineLemmas.schedule_of-end}
+use Rattle.dspec_schedule.proofs.{EndLemmas.after-more, EndLemmas.cut_at, LineLemmas.lines_read-more, LineLemmas.schedule_of-fault, LineLemmas.schedule_of-end}
 use Rattle.dspec_schedule.proofs.schedule.read_schedule.Goals as goal
 
 pub loop-bytes-preserved : goal.loop-bytes-preserved
@@ -15,7 +15,7 @@ loop-bytes-preserved c =
       omega (arith, c.loop-bytes.invariant.2, length-append c.loop-bytes.yielded (c.in-Some.bytes ∷ [])),
       rw map-append (lines_read-more so_far c.in-Some.bytes.now None (option_map plan_of c.loop-bytes.schedule) (option_map plan_of c.in_ok-schedule.schedule)
           1 (c.loop-bytes.line + 1) (omega arith) c.loop-bytes.invariant.3 c.in_ok-schedule.ensures.read),
-      rw map-append (behind-more so_far c.in-Some.bytes.now c.is_empty-is_open.result (c.loop-bytes.line + 1) (search rules) (search rules) (omega arith)),
+      rw map-append (after-more so_far c.in-Some.bytes.now c.is_empty-is_open.result (c.loop-bytes.line + 1) (search rules) (search rules) (omega arith)),
       c.in_ok-schedule.ensures.one_header,
     )
 

@@ -1,5 +1,5 @@
 use Rattle.std.proofs.Common.{◌≡◌, ◌<◌, ◌^◌, ◌+◌, length, ◌++◌, ◌∙◌, subst, sym, ap, All, arith, drop, map}
-use Rattle.specview.specs.Words.{packet, events, Accepts, HasNoRecordPacket, shown_share, packets_behind, refused_in}
+use Rattle.specview.specs.Words.{packet, events, Accepts, HasNoRecordPacket, shown_share, packets_following, refused_in}
 use Rattle.specview.proofs.Parts.{HasRecords, memory_alone, packet_next, refused_next, share_at}
 use Rattle.specview.proofs.trace.put_shares.Goals as goal
 
@@ -28,14 +28,14 @@ loop-share-preserved c =
     let held = c.loop-share.invariant in
     let told = c.in-Ok.ensures in
     let rest = map shown_share (drop (c.loop-share.share-index + 1) c.args.shares.now) in
-    let all = packets_behind c.args.stream.uuid e c.args.stream.cpu c.args.stream.missed (map shown_share c.args.shares.now) in
+    let all = packets_following c.args.stream.uuid e c.args.stream.cpu c.args.stream.missed (map shown_share c.args.shares.now) in
     let now = before.missed + share.drops in
     record {
       uuid = told.same.0 ∙ held.uuid;
       events = told.same.1 ∙ held.events;
       cpu = told.same.2 ∙ held.cpu;
       ahead =
-          subst (λ m. c.extend_from_slice.new.self.items ++ packets_behind c.args.stream.uuid e c.args.stream.cpu m rest ≡ all) (sym told.counted)
+          subst (λ m. c.extend_from_slice.new.self.items ++ packets_following c.args.stream.uuid e c.args.stream.cpu m rest ≡ all) (sym told.counted)
           (packet_next e before.missed c.args.shares.now c.loop-share.share-index share c.loop-share-test.true c.share-item.is c.args.stream.uuid c.args.stream.cpu
           c.loop-share.bytes.items c.extend_from_slice.new.self.items c.in-Ok.packet.items all
           (c.in_ok-extend_from_slice.ensures.items ∙ ap (λ l. c.loop-share.bytes.items ++ l) c.as_slice.ensures.value)

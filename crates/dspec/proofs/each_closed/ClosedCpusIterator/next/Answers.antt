@@ -1,5 +1,5 @@
 use Rattle.std.proofs.{Common.◌<◌, Common.length, Common.arith, lemmas.Bool.Decides.nat_tests}
-use Rattle.dspec.proofs.LeftBehind.{fewer, shown_first}
+use Rattle.dspec.proofs.LeftAfter.{fewer, shown_first}
 use Rattle.dspec.proofs.each_closed.ClosedCpusIterator.next.Goals as goal
 
 pub returns-clause-steps : goal.returns-clause-steps

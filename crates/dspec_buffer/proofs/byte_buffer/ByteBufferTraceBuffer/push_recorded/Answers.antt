@@ -15,8 +15,8 @@ overflow_add-end g c =
     let fit = g.met.S.Schema.shapes_fit s _ _ (sym c.shape_in-size.ensures) in
     record { fits = omega (arith, c.aligned-place.ensures.near, c.self.invariant.within, c.self.invariant.bounded, fit.bounded) }
 
-pub put_behind-requires-clause-gap : goal.put_behind-requires-clause-gap
-put_behind-requires-clause-gap g c =
+pub put_after-requires-clause-gap : goal.put_after-requires-clause-gap
+put_after-requires-clause-gap g c =
     let s = c.args.schema.now in
     let shape : Shape = c.shape_in-size.result in
     let fit = g.met.S.Schema.shapes_fit s _ _ (sym c.shape_in-size.ensures) in
@@ -76,9 +76,9 @@ returns-clause-kept g c = λ ps h.
     let slice = c.as_mut_slice-bytes.ensures.len in
     let written : length (g.S.Schema.text s r) ≡ shape.size = t.size ∙ says.0 in
     let back = laid_whole c.self.inside.offset shape.align c.aligned-place.result shape.size c.self.inside.bytes.len c.self.inside.bytes.items
-    c.self.inside.bytes.items c.put_behind.new.bytes (g.S.Schema.text s r) c.self.invariant.words fit.aligned c.aligned-place.ensures.is (λ z. omega (arith, fit.with_epid)) written
+    c.self.inside.bytes.items c.put_after.new.bytes (g.S.Schema.text s r) c.self.invariant.words fit.aligned c.aligned-place.ensures.is (λ z. omega (arith, fit.with_epid)) written
     (omega arith) (omega arith)
-    (c.put_behind.ensures
+    (c.put_after.ensures
     ∙ ap (λ z. take c.self.inside.offset z ++ (replicate (c.aligned-place.result - c.self.inside.offset) 0 ++ g.S.Schema.text s r)) c.as_mut_slice-bytes.ensures.value) in
     kept _ _ _ laws c.args.self.now _ (one r) ps h (accepted_alone _ _ _ laws r c.requires.accepted)
     (back ∙ ap (λ z. z ++ padded c.self.inside.offset shape.align (g.S.Schema.text s r)) (ap (λ b. b.text) c.self.view_is)

@@ -1,6 +1,6 @@
 -- The CPU's progress, and its count of worn calls in both places.
 use Rattle.std.proofs.Common.{◌≡◌, ◌<◌, ◌^◌, refl, sym, ap, ◌∙◌, arith}
-use Rattle.dspec_core.specs.Words.{history, moved_by, steps_behind}
+use Rattle.dspec_core.specs.Words.{history, moved_by, steps_after}
 use Rattle.dspec_core.proofs.{KeptCpus.moving, MachineReads.cpu_read, Makings.moves_state, Makings.puts_shown, machine.Machine.move_cpu.Goals.in-Some, machine.Machine.move_cpu.Goals.in-None}
 use Rattle.dspec_core.proofs.machine.Machine.move_cpu.Goals as goal
 
@@ -10,10 +10,10 @@ returns g c =
     let own = c.index_mut-own.result.now in
     let is = c.index_mut-own.ensures.value in
     let few : c.args.step.worn < 2 ^ 64 = omega arith in
-    let behind = steps_behind own.progress.steps in
-    let counted : c.match-step.own ≡ behind c.args.step.flight = elim c.match-step.branch [
-      | in-Some w ↦ w.own-is ∙ ap behind (sym w.in-Some.is)
-      | in-None w ↦ w.own-is ∙ ap behind (sym w.in-None.is)
+    let after = steps_after own.progress.steps in
+    let counted : c.match-step.own ≡ after c.args.step.flight = elim c.match-step.branch [
+      | in-Some w ↦ w.own-is ∙ ap after (sym w.in-Some.is)
+      | in-None w ↦ w.own-is ∙ ap after (sym w.in-None.is)
     ] in
     record {
       shown = puts_shown c.requires.shown c.requires.cpu is

@@ -2,7 +2,7 @@
 use Rattle.std.proofs.Common.{ap}
 use Rattle.dspec_deeds.specs.declared.calls.Actor.TheVariants as actor
 use Rattle.dspec_core.specs.Words.{state_of, WorldView}
-use Rattle.dspec_core.proofs.PromiseKept.{promise_behind}
+use Rattle.dspec_core.proofs.PromiseKept.{promise_after}
 use Rattle.dspec_interleaving.proofs.StepCounts.{made_counted}
 use Rattle.dspec_core.proofs.world.World.advance.Goals as goal
 
@@ -13,7 +13,7 @@ returns-in-Cpu-clause-counted g c =
     c.step_cpu.ensures.answered
 
 pub returns-in-Cpu-clause-promised : goal.returns-in-Cpu-clause-promised
-returns-in-Cpu-clause-promised g c = promise_behind c.step_cpu.new.self c.step_cpu.result c.self.invariant c.step_cpu.ensures.kept c.step_cpu.ensures.refused
+returns-in-Cpu-clause-promised g c = promise_after c.step_cpu.new.self c.step_cpu.result c.self.invariant c.step_cpu.ensures.kept c.step_cpu.ensures.refused
 
 pub returns-in-Consumer-clause-counted : goal.returns-in-Consumer-clause-counted
 returns-in-Consumer-clause-counted g c =
@@ -22,4 +22,4 @@ returns-in-Consumer-clause-counted g c =
     c.step_consumer.ensures.answered
 
 pub returns-in-Consumer-clause-promised : goal.returns-in-Consumer-clause-promised
-returns-in-Consumer-clause-promised g c = promise_behind c.step_consumer.new.self c.step_consumer.result c.self.invariant c.step_consumer.ensures.kept c.step_consumer.ensures.refused
+returns-in-Consumer-clause-promised g c = promise_after c.step_consumer.new.self c.step_consumer.result c.self.invariant c.step_consumer.ensures.kept c.step_consumer.ensures.refused

@@ -3,9 +3,9 @@ use Rattle.dspec_cpu.specs.Words.{fits_speculative, mark, known, Goes, Stands, R
 use Rattle.dspec_deeds.specs.declared.deed.SpeculateFate.TheVariants as spoken
 use Rattle.dspec_cpu.specs.declared.reaching.Reach.TheVariants as reach
 use Rattle.dspec_cpu.specs.declared.reaching.SlotTurn.TheVariants as turn
-use Rattle.dspec_cpu.proofs.{Behind.Behind, Behind.behind, Behind.one_behind, Decided.reached_as, Leaves.reached_leaves, Limits.limits, ReachDeeds.unstopped, Reaches.slot_inside, Reaches.is_running}
-use Rattle.dspec_cpu.proofs.{Ready.roomy, Ready.few, Shown.shows, Speculates.asked, Speculates.grants, Speculates.grant_deeds, Speculates.caller_of, Speculates.own_fits, Speculates.own_mark}
-use Rattle.dspec_cpu.proofs.{Speculates.granted_shown, parts.CpuParts.offer.Given.Over, parts.CpuParts.offer.Goals.After-grant-kept}
+use Rattle.dspec_cpu.proofs.{Decided.reached_as, DeedsAfter.DeedsAfter, DeedsAfter.deeds_after, DeedsAfter.one_after, Leaves.reached_leaves, Limits.limits, ReachDeeds.unstopped, Reaches.slot_inside}
+use Rattle.dspec_cpu.proofs.{Reaches.is_running, Ready.roomy, Ready.few, Shown.shows, Speculates.asked, Speculates.grants, Speculates.grant_deeds, Speculates.caller_of, Speculates.own_fits}
+use Rattle.dspec_cpu.proofs.{Speculates.own_mark, Speculates.granted_shown, parts.CpuParts.offer.Given.Over, parts.CpuParts.offer.Goals.After-grant-kept}
 use Rattle.dspec_deeds.proofs.TestLemmas.{number_is_itself}
 use Rattle.dspec_cpu.proofs.parts.CpuParts.offer.Goals as goal
 
@@ -70,7 +70,7 @@ returns-in-Stopped g c =
     let seat = c.go_on-reached.new.seat in
     let side = c.speculate_nowhere in
     let got = reached_as _ _ _ (words_of c.args.shared.now) cpu ready c.requires.doing c.in-Stopped.ensures.reached in
-    let ended = one_behind _ _ _ (words_of c.args.shared.now) cpu ready seat c.go_on-reached.ensures.seat side.new.self (Speculate cpu.cpu id r spoken.Stopped) got.goes got.stands refl
+    let ended = one_after _ _ _ (words_of c.args.shared.now) cpu ready seat c.go_on-reached.ensures.seat side.new.self (Speculate cpu.cpu id r spoken.Stopped) got.goes got.stands refl
     (number_is_itself cpu.cpu) ready.steady.idle refl (λ p had was. (tt, side.ensures.shows cpu.schema cpu.config cpu.cpu p id r was)) in
     record {
       ready = ended.ready;
@@ -89,7 +89,7 @@ returns-in-Void g c =
     let seat = c.go_on-reached.new.seat in
     let side = c.speculate_nowhere-in-Void in
     let got = reached_as _ _ _ (words_of c.args.shared.now) cpu ready c.requires.doing c.in-Void.ensures.reached in
-    let ended = one_behind _ _ _ (words_of c.args.shared.now) cpu ready seat c.go_on-reached.ensures.seat side.new.self (Speculate cpu.cpu id r spoken.Void) got.goes got.stands refl
+    let ended = one_after _ _ _ (words_of c.args.shared.now) cpu ready seat c.go_on-reached.ensures.seat side.new.self (Speculate cpu.cpu id r spoken.Void) got.goes got.stands refl
     (number_is_itself cpu.cpu) ready.steady.idle refl (λ p had was. (tt, side.ensures.shows cpu.schema cpu.config cpu.cpu p id r was)) in
     record {
       ready = ended.ready;
@@ -101,7 +101,7 @@ returns-in-Void g c =
 
 -- the record was granted, and kept or dropped
 granted : (g : Over) (c : After-grant-kept g) (b : Bool) → c.grant-kept.result ≡ b
-    → (Behind (g.S.Schema.shape_of c.args.self.now.schema) (g.S.Schema.accepted c.args.self.now.schema) (g.S.Schema.text c.args.self.now.schema) (words_of c.args.shared.now) c.args.self.now
+    → (DeedsAfter (g.S.Schema.shape_of c.args.self.now.schema) (g.S.Schema.accepted c.args.self.now.schema) (g.S.Schema.text c.args.self.now.schema) (words_of c.args.shared.now) c.args.self.now
     (Speculate c.args.self.now.cpu c.args.id (g.R.Recorded.as_record c.args.rec) (if b then spoken.Kept else spoken.Dropped) ∷ [])
     (record c.args.self.now { seat = c.go_on-reached.new.seat; side = c.grant-kept.new.self }))
     × CallLeaves false false 4 (of_slot c.args.self.now.config c.args.id) c.args.self.now (record c.args.self.now { seat = c.go_on-reached.new.seat; side = c.grant-kept.new.self })
@@ -125,7 +125,7 @@ granted g c b is =
     let fit_is : fit ≡ b = sym (own_fits shape cpu.config cpu.cpu id r (known cpu.seat).own ready.steady.list ready.steady.listed.own)
     ∙ (sym (side.ensures.answer cpu.config cpu.cpu ready.steady.list (shows _ _ _ cpu.side ready.steady.list ready.steady.listed.shown) caller_now) ∙ is) in
     let deeds = grant_deeds cpu.cpu (asked id r fit mine) id r reached b c.in-Granted.is fit_is in (
-      behind _ _ _ words cpu ready seat c.go_on-reached.ensures.seat side.new.self (Speculate cpu.cpu id r (if b then spoken.Kept else spoken.Dropped) ∷ [])
+      deeds_after _ _ _ words cpu ready seat c.go_on-reached.ensures.seat side.new.self (Speculate cpu.cpu id r (if b then spoken.Kept else spoken.Dropped) ∷ [])
           (subst (λ ds. Goes (known cpu.seat) ds (known seat)) deeds got.goes) (subst (λ ds. Stands cpu.config cpu.cpu (known cpu.seat) ds (known seat)) deeds got.stands)
           (λ p. refl) ready.steady.idle refl (λ p had.
           let caller_then = caller p had.own (c.requires.mine inside p had.shown) in

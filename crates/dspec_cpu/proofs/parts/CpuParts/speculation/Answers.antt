@@ -1,6 +1,6 @@
 use Rattle.std.proofs.Common.{◌+◌, ℕ, [], refl, ap, subst}
 use Rattle.dspec_cpu.specs.Words.{Config, known, rests, words_of, Scanned, opening_deeds, Counts}
-use Rattle.dspec_cpu.proofs.{Behind.behind, Decisions.worn_shown, Leaves.worn_leaves, Leaves.scanned_leaves, Limits.limits, Openings.bare_opening, Openings.opening_shown, Ready.roomy}
+use Rattle.dspec_cpu.proofs.{Decisions.worn_shown, DeedsAfter.deeds_after, Leaves.worn_leaves, Leaves.scanned_leaves, Limits.limits, Openings.bare_opening, Openings.opening_shown, Ready.roomy}
 use Rattle.dspec_cpu.proofs.{Scans.idle_again, Scans.none_flies}
 use Rattle.dspec_cpu.proofs.parts.CpuParts.speculation.Goals as goal
 
@@ -25,7 +25,7 @@ returns g c =
     let side = record cpu.side { calls = cpu.side.calls + 1; missed_busy = busy; counts = c.open.new.self } in
     let got = subst (λ (x : Config × ℕ). Scanned x.0 x.1 (known cpu.seat) a busy (known seat)) (λ i. (ready.config i, ready.steady.seat i)) c.scan_slots-answer.ensures.scanned in
     let some = (limits cpu.config ready.steady.checked).specs.least in
-    let ended = behind _ _ _ words cpu ready seat c.scan_slots-answer.ensures.seat side (opening_deeds cpu.cpu got.missed a) got.goes got.stands
+    let ended = deeds_after _ _ _ words cpu ready seat c.scan_slots-answer.ensures.seat side (opening_deeds cpu.cpu got.missed a) got.goes got.stands
     (λ p. bare_opening cpu.cpu p got.missed a) (idle_again cpu.config cpu.cpu (known cpu.seat).own got.missed a some got.answer got.unworn)
     (none_flies cpu.config cpu.cpu (known cpu.seat).flight got.missed a some got.answer got.unworn)
     (λ p had. opening_shown _ _ _ cpu p had.shown seat got.missed a busy c.open.new.self some got.answer got.unworn got.any c.open.ensures) in

@@ -2,8 +2,8 @@ use Rattle.std.proofs.Common.{◌≡◌, ◌∙◌, Bool, true, false, not, [], 
 use Rattle.dspec_deeds.specs.declared.deed.TraceFate.TheVariants as traced
 use Rattle.dspec_cpu.specs.Words.{Trace, Stored, HasPieces, LoadedActivity, known, ShowsList, CallLeaves, of_activity, rests, words_of, worn_of, Counts}
 use Rattle.dspec_deeds.proofs.TestLemmas.{number_is_itself}
-use Rattle.dspec_cpu.proofs.{Behind.Behind, Behind.one_behind, Leaves.worn_leaves, Leaves.loaded_leaves, Limits.limits, Ready.roomy, Ready.few_drops, Ready.set_up_is, Ready.holder, Shown.shows}
-use Rattle.dspec_cpu.proofs.{Traces.traces, Traces.trace_row, Traces.asked, parts.CpuParts.trace.Given.Over, parts.CpuParts.trace.Goals.After-trace}
+use Rattle.dspec_cpu.proofs.{DeedsAfter.DeedsAfter, DeedsAfter.one_after, Leaves.worn_leaves, Leaves.loaded_leaves, Limits.limits, Ready.roomy, Ready.few_drops, Ready.set_up_is, Ready.holder}
+use Rattle.dspec_cpu.proofs.{Shown.shows, Traces.traces, Traces.trace_row, Traces.asked, parts.CpuParts.trace.Given.Over, parts.CpuParts.trace.Goals.After-trace}
 use Rattle.dspec_cpu.proofs.parts.CpuParts.trace.Goals as goal
 
 pub returns-then-self-clause-did : goal.returns-then-self-clause-did
@@ -38,7 +38,7 @@ returns-then-not-runs g c =
     let step = subst (λ x. LoadedActivity (asked r fit) (known cpu.seat) (not x) (known seat)) c.if-not-runs.true
     c.load_for-runs.ensures.step in
     let did = traces cpu.config cpu.cpu (known cpu.seat) (known seat) r fit true traced.Stopped (set_up_is _ _ _ words cpu ready) (holder _ _ _ words cpu ready) step refl in
-    let ended = one_behind _ _ _ words cpu ready seat c.load_for-runs.ensures.seat side.new.self (Trace cpu.cpu r traced.Stopped) did.goes did.stands refl (number_is_itself cpu.cpu)
+    let ended = one_after _ _ _ words cpu ready seat c.load_for-runs.ensures.seat side.new.self (Trace cpu.cpu r traced.Stopped) did.goes did.stands refl (number_is_itself cpu.cpu)
     ready.steady.idle refl (λ p had was. (tt, side.ensures.shows cpu.schema cpu.config cpu.cpu p r was)) in
     record {
       ready = ended.ready;
@@ -50,7 +50,7 @@ returns-then-not-runs g c =
 
 -- the record was kept or dropped
 ran : (g : Over) (c : After-trace g) (b : Bool) → c.trace.result ≡ b
-    → (Behind (g.S.Schema.shape_of c.args.self.now.schema) (g.S.Schema.accepted c.args.self.now.schema) (g.S.Schema.text c.args.self.now.schema) (words_of c.args.shared.now) c.args.self.now
+    → (DeedsAfter (g.S.Schema.shape_of c.args.self.now.schema) (g.S.Schema.accepted c.args.self.now.schema) (g.S.Schema.text c.args.self.now.schema) (words_of c.args.shared.now) c.args.self.now
     (Trace c.args.self.now.cpu (g.R.Recorded.as_record c.args.rec) (if b then traced.Kept else traced.Dropped) ∷ [])
     (record c.args.self.now { seat = c.load_for-runs.new.seat; side = c.trace.new.self }))
     × CallLeaves false false 1 of_activity c.args.self.now (record c.args.self.now { seat = c.load_for-runs.new.seat; side = c.trace.new.self })
@@ -69,7 +69,7 @@ ran g c b is =
     c.load_for-runs.ensures.step in
     let did = traces cpu.config cpu.cpu (known cpu.seat) (known seat) r fit false (if b then traced.Kept else traced.Dropped) (set_up_is _ _ _ words cpu ready) (holder _ _ _ words cpu ready) step
     (ap (λ x. if x then traced.Kept else traced.Dropped) fit_is) in (
-      one_behind _ _ _ words cpu ready seat c.load_for-runs.ensures.seat side.new.self (Trace cpu.cpu r (if b then traced.Kept else traced.Dropped)) did.goes did.stands refl
+      one_after _ _ _ words cpu ready seat c.load_for-runs.ensures.seat side.new.self (Trace cpu.cpu r (if b then traced.Kept else traced.Dropped)) did.goes did.stands refl
           (number_is_itself cpu.cpu) ready.steady.idle refl (λ p had was. (
             trace_row (g.S.Schema.shape_of cpu.schema) cpu.config cpu.cpu r p b (sym (sym (c.fits-fits.ensures cpu.cpu p was) ∙ fit_is)),
             subst (λ x. ShowsList (HasPieces (g.S.Schema.shape_of cpu.schema) (g.S.Schema.accepted cpu.schema) (g.S.Schema.text cpu.schema)) (λ (s : Stored). s.size) cpu.config cpu.cpu

@@ -1,5 +1,5 @@
 use Rattle.std.proofs.Common.{◌≡◌, ◌+◌, ◌∙◌, ℕ, sym, subst, arith}
-use Rattle.dspec_cpu.specs.Words.{Config, word_at, own_closed, own_closed_slot, last_words, CanCloseBehind, RestHasList}
+use Rattle.dspec_cpu.specs.Words.{Config, word_at, own_closed, own_closed_slot, last_words, CanCloseAfter, RestHasList}
 use Rattle.dspec_cpu.proofs.Closes.{can_close, next_closed}
 use Rattle.dspec_cpu.proofs.rest.CpuRest.settle.Goals as goal
 
@@ -17,7 +17,7 @@ settle_slot-requires-clause-some g c =
       some.2,
       closes.0,
       was.list some.0 some.1 some.2 some.3 some.4 some.5,
-      subst (λ (x : Config × ℕ). CanCloseBehind x.0 x.1 (n + 1) (last_words c.args.last.now) some.2 closes.0 q) (λ i. (sym was.same.config i, sym was.same.number i)) closes.1,
+      subst (λ (x : Config × ℕ). CanCloseAfter x.0 x.1 (n + 1) (last_words c.args.last.now) some.2 closes.0 q) (λ i. (sym was.same.config i, sym was.same.number i)) closes.1,
     )
 
 pub loop-below-preserved : goal.loop-below-preserved
@@ -41,7 +41,7 @@ loop-below-preserved g c =
           let closes = can_close shape rest.config rest.cpu words log p shows its n in
           let q = own_closed shape rest.config (λ s. word_at s log) rest.cpu n p in
           let next = now.list handed q log closes.0 (was.list handed p log had shows its)
-          (subst (λ (x : Config × ℕ). CanCloseBehind x.0 x.1 (n + 1) words log closes.0 q) (λ i. (sym was.same.config i, sym was.same.number i)) closes.1) in
+          (subst (λ (x : Config × ℕ). CanCloseAfter x.0 x.1 (n + 1) words log closes.0 q) (λ i. (sym was.same.config i, sym was.same.number i)) closes.1) in
           let here = subst (λ (x : g.row.S.Denot × Config × ℕ). RestHasList (g.S.Schema.shape_of new.schema) (g.S.Schema.accepted new.schema) (g.S.Schema.text new.schema) new
           handed (own_closed_slot (g.S.Schema.shape_of x.0) x.1 (λ s. word_at s log) x.2 (n + 1) q))
           (λ i. (was.same.schema i, was.same.config i, was.same.number i)) next in

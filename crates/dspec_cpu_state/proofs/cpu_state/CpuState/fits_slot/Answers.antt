@@ -1,6 +1,6 @@
 use Rattle.std.proofs.Common.{◌≡◌, ◌∙◌, ◌-◌, List, [], map, get_or, if◌then◌else◌, sym, ap}
 use Rattle.dspec_cpu_state.specs.Words.{Record, one, piece_fits, contents, held, last_called}
-use Rattle.dspec_cpu_state.proofs.{EndedBlocks.block_is, EndedBlocks.buffer_there, Rooms.behind_fits, Rooms.front_fits}
+use Rattle.dspec_cpu_state.proofs.{EndedBlocks.block_is, EndedBlocks.buffer_there, Rooms.after_fits, Rooms.front_fits}
 use Rattle.dspec_cpu_state.proofs.cpu_state.CpuState.fits_slot.Goals as goal
 
 pub fits-requires : goal.fits-requires
@@ -19,7 +19,7 @@ returns-then-mine g c = λ cpu p shown caller.
     let all : rs ≡ contents (held cpu id p) = sym (ap (λ m. if m then rs else []) c.if-mine.true) ∙ block_is _ _ shape p shown id c.args.mine c.requires.slot.0 c.requires.slot.1 caller in
     let is = ap shape (sym c.epid.ensures) ∙ (sym c.shape.ensures ∙ c.in-Some.is) in
     c.fits.ensures c.args.schema.now (map one rs) has.has
-    ∙ (behind_fits shape r c.in-Some.shape _ is (map one rs)
+    ∙ (after_fits shape r c.in-Some.shape _ is (map one rs)
     ∙ (ap (piece_fits shape (map one rs) (one r)) has.sized
     ∙ ap (λ (l : List Record). piece_fits shape (map one l) (one r) c.args.config.now.specsize) all))
 

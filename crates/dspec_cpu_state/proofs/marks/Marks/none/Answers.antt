@@ -4,7 +4,7 @@ use Rattle.dspec_cpu_state.proofs.Starts.{zero_everywhere}
 use Rattle.dspec_cpu_state.proofs.marks.Marks.none.Goals as goal
 
 pub invariant_of-result : goal.invariant_of-result
-invariant_of-result c = record { places = refl; few = c.requires.few; first = refl; rest = λ s behind. zero_everywhere 64 s }
+invariant_of-result c = record { places = refl; few = c.requires.few; first = refl; rest = λ s after. zero_everywhere 64 s }
 
 pub returns : goal.returns
 returns c = take-replicate c.args.count 63 0 c.requires.few

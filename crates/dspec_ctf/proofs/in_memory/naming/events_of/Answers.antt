@@ -1,6 +1,6 @@
 use Rattle.std.proofs.Common.{◌≡◌, ◌+◌, ◌++◌, ◌∷◌, ◌∙◌, [], length, map, take, drop, subst, sym, rules}
 use Rattle.dspec_ctf.specs.Words.{AreEvents, kinds_in, texts_in}
-use Rattle.dspec_ctf.proofs.InMemory.Events.{of_part, one_more, some_behind, some_numbers}
+use Rattle.dspec_ctf.proofs.InMemory.Events.{of_part, one_more, some_after, some_numbers}
 use Rattle.dspec_ctf.proofs.in_memory.naming.events_of.Goals as goal
 
 pub returns-in-Err-clause-fault : goal.returns-in-Err-clause-fault
@@ -13,7 +13,7 @@ loop-place-preserved c =
     let kinds = c.args.numbers.now in
     let event = c.in-Ok.event in
     let named = length event.fields.now in
-    let texts : texts_in event ≡ take (1 + named) (drop c.loop-place.text names) = c.in-Ok.ensures.texts ∙ some_behind (λ t. t.now) c.args.texts.now c.loop-place.text (1 + named) in
+    let texts : texts_in event ≡ take (1 + named) (drop c.loop-place.text names) = c.in-Ok.ensures.texts ∙ some_after (λ t. t.now) c.args.texts.now c.loop-place.text (1 + named) in
     let numbers : kinds_in event ≡ take n (drop c.loop-place.number kinds) = c.in-Ok.ensures.kinds ∙ some_numbers kinds c.loop-place.number n in
     let items : c.push.new.self.items ≡ c.loop-place.events.items ++ event ∷ [] = search rules in
     record {

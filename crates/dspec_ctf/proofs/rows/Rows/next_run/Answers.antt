@@ -14,7 +14,7 @@ take_all_on-end-requires-clause-there c =
 pub returns-clause-run : goal.returns-clause-run
 returns-clause-run c =
     let end = c.take_all_on-end.result in
-    let some : c.args.place < end = omega (arith, c.take_all_on-end.ensures.behind) in
+    let some : c.args.place < end = omega (arith, c.take_all_on-end.ensures.not_before) in
     record {
       some = some;
       within = c.take_all_on-end.ensures.within;

@@ -11,15 +11,15 @@ loop-rest-preserved c =
     let rest : List ℕ = c.loop-rest.rest.now in
     let some : 0 < length rest = search rules in
     let packet : PacketRead = packet_as_read layout c.in-Ok.packet in
-    let behind : List ℕ = c.in-Ok.packet.behind.now in
+    let after : List ℕ = c.in-Ok.packet.after.now in
     let rises = c.in-Ok-see_times.ensures.rises in
     record {
       on = λ sound.
-          let back = sound-back layout uuid cpu c.loop-rest.last rest behind packet some c.in-Ok.ensures.read (c.loop-rest.invariant.on sound) in
-          subst (λ n. IsSoundFrom layout uuid cpu n behind) (sym rises.1) back.sound;
+          let back = sound-back layout uuid cpu c.loop-rest.last rest after packet some c.in-Ok.ensures.read (c.loop-rest.invariant.on sound) in
+          subst (λ n. IsSoundFrom layout uuid cpu n after) (sym rises.1) back.sound;
       back = λ sound.
-          c.loop-rest.invariant.back (sound-step layout uuid cpu c.loop-rest.last rest behind packet some c.in-Ok.ensures.read
-          c.in-Ok-see_whose.ensures.same.0 c.in-Ok-see_whose.ensures.same.1 rises.0 (subst (λ n. IsSoundFrom layout uuid cpu n behind) rises.1 sound));
+          c.loop-rest.invariant.back (sound-step layout uuid cpu c.loop-rest.last rest after packet some c.in-Ok.ensures.read
+          c.in-Ok-see_whose.ensures.same.0 c.in-Ok-see_whose.ensures.same.1 rises.0 (subst (λ n. IsSoundFrom layout uuid cpu n after) rises.1 sound));
     }
 
 pub returns-in-Err-see_whose-clause-told : goal.returns-in-Err-see_whose-clause-told
@@ -27,7 +27,7 @@ returns-in-Err-see_whose-clause-told c =
     let layout : Layout = told_layout c.args.metadata.now in
     let some : 0 < length c.loop-rest.rest.now = search rules in
     λ _ sound.
-    let back = sound-back layout c.args.whose.now.uuid c.args.whose.now.cpu c.loop-rest.last c.loop-rest.rest.now c.in-Ok.packet.behind.now (packet_as_read layout c.in-Ok.packet) some
+    let back = sound-back layout c.args.whose.now.uuid c.args.whose.now.cpu c.loop-rest.last c.loop-rest.rest.now c.in-Ok.packet.after.now (packet_as_read layout c.in-Ok.packet) some
     c.in-Ok.ensures.read (c.loop-rest.invariant.on sound) in
     c.in-Err-see_whose.ensures.other (back.of_uuid, back.of_cpu)
 
@@ -36,6 +36,6 @@ returns-in-Err-see_times-clause-told c =
     let layout : Layout = told_layout c.args.metadata.now in
     let some : 0 < length c.loop-rest.rest.now = search rules in
     λ _ sound.
-    let back = sound-back layout c.args.whose.now.uuid c.args.whose.now.cpu c.loop-rest.last c.loop-rest.rest.now c.in-Ok.packet.behind.now (packet_as_read layout c.in-Ok.packet) some
+    let back = sound-back layout c.args.whose.now.uuid c.args.whose.now.cpu c.loop-rest.last c.loop-rest.rest.now c.in-Ok.packet.after.now (packet_as_read layout c.in-Ok.packet) some
     c.in-Ok.ensures.read (c.loop-rest.invariant.on sound) in
     c.in-Err-see_times.ensures.falls back.rises

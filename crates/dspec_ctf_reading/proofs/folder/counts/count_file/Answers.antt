@@ -16,6 +16,6 @@ loop-rest-preserved c =
     let some : 0 < length c.loop-rest.rest.now = search rules in
     let counted : c.count_packet.result ≡ true = c.if-not-count_packet.false in
     let missed : c.begin_file-before.result.1 ≡ c.args.counts.now.missed = ap (λ p. p.1) c.begin_file-before.ensures.before in
-    counted-more (told_layout c.args.metadata.now) c.args.bytes.now c.loop-rest.rest.now c.in_ok-packet.packet.behind.now c.in_ok-packet.packet c.args.counts.now
+    counted-more (told_layout c.args.metadata.now) c.args.bytes.now c.loop-rest.rest.now c.in_ok-packet.packet.after.now c.in_ok-packet.packet c.args.counts.now
     c.loop-rest.counts c.count_packet.new.counts some c.loop-rest.invariant c.in_ok-packet.ensures.read c.in_ok-packet.ensures.fit
     (subst (λ n. CountsPacket n c.in_ok-packet.packet c.loop-rest.counts c.count_packet.new.counts) missed (c.count_packet.ensures counted))

@@ -10,10 +10,10 @@ whole front events = option_map (λ es. record { uuid = front.uuid; cpu = front.
 
 -- a packet with what is after it
 abbrev beside : List ℕ → Option PacketRead → PartRead PacketRead
-beside behind packet = option_map (λ p. (p, behind)) packet
+beside after packet = option_map (λ p. (p, after)) packet
 
 abbrev of_split : Layout → Option PacketSplit → PartRead PacketRead
-of_split layout split = option_and_then (λ s. beside s.behind (with_events layout s.front s.body)) split
+of_split layout split = option_and_then (λ s. beside s.after (with_events layout s.front s.body)) split
 
 pub returns-in-Ok-read_events-clause-read : goal.returns-in-Ok-read_events-clause-read
 returns-in-Ok-read_events-clause-read c =
@@ -21,7 +21,7 @@ returns-in-Ok-read_events-clause-read c =
     let timed : layout.timed ≡ c.is_some.result = search rules in
     let split : split_packet layout.timed c.args.bytes.now ≡ Some (told_packet c.in-Ok.packet) = ap (λ t. split_packet t c.args.bytes.now) timed ∙ c.in-Ok.ensures.read in
     packet-split layout c.args.bytes.now ∙ ap (of_split layout) split
-    ∙ ap (λ events. beside c.in-Ok.packet.behind.now (whole (front_of c.in-Ok.packet.front) events)) c.in-Ok-read_events.ensures.read
+    ∙ ap (λ events. beside c.in-Ok.packet.after.now (whole (front_of c.in-Ok.packet.front) events)) c.in-Ok-read_events.ensures.read
 
 pub returns-in-Err-clause-none : goal.returns-in-Err-clause-none
 returns-in-Err-clause-none c = λ _.

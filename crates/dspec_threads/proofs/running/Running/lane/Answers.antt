@@ -1,7 +1,7 @@
 use Rattle.std.proofs.{Common.IfOk, Common.refl, Common.subst, Common.arith, lemmas.Bool.Decides.nat_tests, lemmas.List.length-map}
 use Rattle.std.specs.{Arc.arc_value, Prelude.IfSome}
 use Rattle.dspec_threads.specs.Words.{EachPair, KeepsPlace, LooksAndSends, StaysIn, whereabouts, IsLaneOf, RunningSession}
-use Rattle.dspec_threads.proofs.{Pairs.pair_count, Runs.lane_sent, Runs.later_so, Runs.none_handed, Runs.of_run, Runs.placed_later, Whereabouts.one_placed, Whereabouts.seen_behind}
+use Rattle.dspec_threads.proofs.{Pairs.pair_count, Runs.lane_sent, Runs.later_so, Runs.none_handed, Runs.of_run, Runs.placed_later, Whereabouts.one_placed, Whereabouts.seen_after}
 use Rattle.dspec_threads.proofs.{Whereabouts.seen_handed, Whereabouts.seen_later, Whereabouts.sends_keeps}
 use Rattle.dspec_threads.proofs.running.Running.lane.Goals as goal
 
@@ -27,8 +27,8 @@ returns-clause-hands g c =
     let a = c.send_out_at.result in
     record {
       same = later_so _ _ _ _ _ _ _ _ c.self.view_is;
-      looked = seen_behind done a c.args.number _ _ c.send_out_at.ensures;
-      later = subst (λ (r : RunningSession g.row.K.Denot). EachPair StaysIn r.home (seen_behind done a c.args.number _ _ c.send_out_at.ensures)) c.self.view_is
+      looked = seen_after done a c.args.number _ _ c.send_out_at.ensures;
+      later = subst (λ (r : RunningSession g.row.K.Denot). EachPair StaysIn r.home (seen_after done a c.args.number _ _ c.send_out_at.ensures)) c.self.view_is
           (seen_later done a c.args.number _ _ c.send_out_at.ensures);
       hands = seen_handed done a c.args.number _ _ c.send_out_at.ensures;
     }
