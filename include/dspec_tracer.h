@@ -346,7 +346,7 @@ typedef struct dspec_salvaged {
     uint32_t unreadable;  /* lanes whose memory can't be that of a lane: what they had is missing */
     uint64_t lost;        /* records that the run itself couldn't write, and that are in no memory: nobody has them */
     uint64_t not_written; /* records that this call couldn't write: the file can be read once more, into another folder */
-    uint64_t unsure;      /* those of `kept` that may be in the run's own folder too, since that wasn't found */
+    uint64_t unsure;      /* those of `kept` that may be in the run's own folder too, since that wasn't found or couldn't be opened */
     char folder[4096];    /* the run's own folder, its whole path */
     char why[256];        /* why it answered false */
 } dspec_salvaged;

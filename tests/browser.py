@@ -9,6 +9,8 @@ import shutil
 import socket
 import struct
 import subprocess
+import threading
+import time
 
 CHROMIUM = shutil.which("chromium")
 SWITCHES = ["--headless", "--no-sandbox", "--disable-gpu", "--disable-background-networking", "--no-first-run", "--remote-debugging-port=0", "--host-resolver-rules=MAP * ~NOTFOUND"]
@@ -20,23 +22,26 @@ class Browser:
     def __init__(self, profile, width=1400, height=860):
         self.calls, self.asked, self.console, self.loaded = 0, [], [], False
         self.process = subprocess.Popen([CHROMIUM, *SWITCHES, f"--user-data-dir={profile}", f"--window-size={width},{height}", "about:blank"], stdout=subprocess.DEVNULL, stderr=subprocess.PIPE, text=True)
-        for line in self.process.stderr:
-            found = re.search(r"ws://127\.0\.0\.1:(\d+)/", line)
-            if found:
-                break
-        self.connect(int(found[1]), self.page_of(int(found[1])))
+        port = next((int(found[1]) for found in (re.search(r"ws://127\.0\.0\.1:(\d+)/", line) for line in self.process.stderr) if found), None)
+        if port is None:
+            raise OSError(f"Chromium doesn't come up: status {self.process.wait()}")
+        threading.Thread(target=self.process.stderr.read, daemon=True).start()
+        self.connect(port, self.page_of(port))
         for domain in ("Page", "Runtime", "Network", "Log", "Performance"):
             self.call(f"{domain}.enable")
         self.resize(width, height)
 
     @staticmethod
     def page_of(port):
-        """The path of the page's socket."""
-        asking = http.client.HTTPConnection("127.0.0.1", port)
-        asking.request("GET", "/json")
-        found = next(one for one in json.load(asking.getresponse()) if one["type"] == "page")
-        asking.close()
-        return found["webSocketDebuggerUrl"].split(str(port), 1)[1]
+        """The path of the page's socket, once there is a page: that the browser listens may be told before that."""
+        while True:
+            asking = http.client.HTTPConnection("127.0.0.1", port, timeout=120)
+            asking.request("GET", "/json")
+            pages = [one for one in json.load(asking.getresponse()) if one["type"] == "page"]
+            asking.close()
+            if pages:
+                return pages[0]["webSocketDebuggerUrl"].split(str(port), 1)[1]
+            time.sleep(0.05)
 
     def connect(self, port, path):
         self.socket = socket.create_connection(("127.0.0.1", port), timeout=120)

@@ -13,6 +13,7 @@ struct salvage {
     uint32_t last_lane, last_place; /* of the open path that was found last */
     bool is_owed; /* the event that the lane owes wasn't found among its records */
     bool is_parked; /* the path that the consumer was taking is in its ring still */
+    int why_unsure; /* the error by which the run's folder couldn't be opened; 0 where it isn't there */
     writing kept, open;
 };
 
@@ -56,7 +57,7 @@ static bool write_owed(struct salvage *salvage, uint32_t number) {
 }
 
 static bool get_kept(struct salvage *salvage, found_batch *batch) {
-    uint64_t unsure = 0, without = batch->kind == FOUND_BROUGHT ? written_records(&salvage->file, salvage->path, batch, &unsure) : 0;
+    uint64_t unsure = 0, without = batch->kind == FOUND_BROUGHT ? written_records(&salvage->file, salvage->path, batch, &unsure, &salvage->why_unsure) : 0;
     if (without > batch->records) return false;
     salvage->told->unsure += unsure;
     find_owed(salvage, &batch->batch);
@@ -125,13 +126,19 @@ static bool read_lanes(struct salvage *salvage) {
 
 /* ---- The whole. ---- */
 
+/* What the run's folder was getting may be in it too: says why that isn't known. */
+static bool fail_unsure(struct salvage *salvage) {
+    char why[90];
+    snprintf(why, sizeof why, "%.40s, so what it was getting may be twice", salvage->why_unsure == 0 ? "it isn't found" : strerror(salvage->why_unsure));
+    return fail(salvage, salvage->told->folder, why);
+}
+
 static bool end_all(struct salvage *salvage) {
     uint64_t lost[2] = { 0, 0 };
     bool is_whole = is_without(salvage, salvage->folder, writing_end(&salvage->kept, salvage->folder, &salvage->told->kept, &lost[0]));
     is_whole = is_without(salvage, salvage->folder, writing_end(&salvage->open, salvage->folder, &salvage->told->undecided, &lost[1])) && is_whole;
     salvage->told->not_written = lost[0] + lost[1];
-    if (salvage->told->unsure > 0) is_whole = fail(salvage, salvage->told->folder, "it isn't found, so what it was getting may be twice: in it and among what was salvaged");
-    return is_whole;
+    return (salvage->told->unsure == 0 || fail_unsure(salvage)) && is_whole;
 }
 
 static bool write_all(struct salvage *salvage) {

@@ -64,8 +64,9 @@ const char *saved_taken_read(const saved_file *file, bool is_parked, found_batch
 
 /* ---- salvage_written.c ---- */
 
-/* How many records of the batch that the run's folder was getting of a lane it has. unsure: how many of the others may be there too, since the folder isn't found. */
-uint64_t written_records(const saved_file *saved, const char *file, const found_batch *batch, uint64_t *unsure);
+/* How many records of the batch that the run's folder was getting of a lane it has. unsure: how many of the others may be there too, since the folder isn't found, or can't be opened: why is the
+ * error of that. */
+uint64_t written_records(const saved_file *saved, const char *file, const found_batch *batch, uint64_t *unsure, int *why);
 
 /* ---- salvage_folder.c ---- */
 
