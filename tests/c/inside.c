@@ -599,10 +599,20 @@ static void *owes(void *unused) {
 
 /* ---- Paths that begin and end at once. ---- */
 
+/* Whether the consumer sleeps until somebody stirs it: a flush is served in the middle of a turn, whose round asks lanes that aren't idle for a service. */
+static bool sleeps(const body *tracer) {
+    enum { MOST_WAITS = 60000 };
+    for (int waits = 0; waits < MOST_WAITS; waits++) {
+        if (__atomic_load_n(&tracer->asleep, __ATOMIC_SEQ_CST) != 0) return true;
+        usleep(1000);
+    }
+    return false;
+}
+
 /* A lane that nobody is on, with a tracer's thread that has none. */
 static struct lane *quiet(dspec_tracer *tracer, dspec_tracer_seat *mine, uint32_t state) {
     struct lane *lane = lane_of(mine->last);
-    CHECK(dspec_tracer_flush(tracer, 5000));
+    CHECK(dspec_tracer_flush(tracer, 60000) && sleeps(tracer->body));
     lane->front.state = state;
     return lane;
 }
@@ -679,7 +689,7 @@ static void *idle_lane_goes(void *unused) {
 }
 
 static void *at_once(void *unused) {
-    const dspec_tracer_options options = { .lanes = LANES, .no_crash = true, .no_term = true, .period_ms = 1000 };
+    const dspec_tracer_options options = { .lanes = LANES, .no_crash = true, .no_term = true, .period_ms = 1000000 };
     static const uint32_t states[] = { 0, IDLE, SHARED, SERVE };
     dspec_tracer tracer = { 0 };
     dspec_tracer_report report;
