@@ -59,11 +59,12 @@ int LLVMFuzzerTestOneInput(const uint8_t *data, size_t size) {
     found_batch batch = { .kind = FOUND_BROUGHT };
     const dspec_folder *folder = &of.tracer->folder;
     uint64_t unsure, records;
+    int why = 0;
     batch.before = folder_of(&from);
     batch.batch.len = take(&from, 3);
     batch.records = take(&from, 2);
     write_file(files_at, from.at, from.left);
-    records = written_records(&of, "/nowhere/run-memory", &batch, &unsure);
+    records = written_records(&of, "/nowhere/run-memory", &batch, &unsure, &why);
     MUST(unsure <= batch.records);
     MUST(records == UINT64_MAX || (folder->kept <= DSPEC_FOLDER_MOST && folder->oldest < DSPEC_FOLDER_MOST));
     MUST(unsure == 0 || folder->writing.file < DSPEC_CTF_MAX_FILES);
