@@ -12,7 +12,7 @@
  * Each packet of the format has 1,024 bytes: its events, and zeros after them. Where all that is put goes to the ends of its files, one write each, a packet lies in one page of its
  * file, and a program that is killed in a write leaves whole packets.
  *
- *     where memory may be wanting:   dspec_ctf_reserve(&ctf, bufsize), and a room of dspec_ctf_room(bufsize) bytes
+ *     where memory may be wanting:   dspec_ctf_reserve(&ctf, bufsize), and a room of dspec_ctf_room(bufsize) bytes; dspec_ctf_swap_rooms for several CPUs
  *     for each batch of a CPU:       dspec_ctf_batch(&ctf, &batch)
  *     until DSPEC_NO_PACKET:         dspec_ctf_put(&ctf, room, size, &packet), and its bytes to the end of file packet.file
  *     where they can't be written:   dspec_ctf_lose(&ctf, &records), and the next batch
@@ -83,6 +83,12 @@ DSPEC_INLINE size_t dspec_ctf_room(size_t len) DSPEC_NOEXCEPT { return (len / DS
  * some 8 times as much, and 4 KB. So a process that crashes can write what it has. Takes memory.
  * DSPEC_OK. DSPEC_NO_MEMORY: nothing is changed but that some of it may be there. DSPEC_BAD_HANDLE. */
 dspec_status dspec_ctf_reserve(dspec_ctf *ctf, size_t len) DSPEC_NOEXCEPT;
+
+/* Exchanges the rooms of the files of two CPUs, so that one room, as dspec_ctf_reserve takes it, serves batches of several in their turns. What either missed, and tells, stays. The
+ * two are different handles. Takes no memory.
+ * DSPEC_OK: neither has a batch open any more. DSPEC_BUSY: of a batch of either a record is left, or is in the packet that was put last; nothing is changed.
+ * Another dspec_ctf_put until DSPEC_NO_PACKET, or dspec_ctf_lose, ends that batch. DSPEC_BAD_HANDLE (either). */
+dspec_status dspec_ctf_swap_rooms(dspec_ctf *ctf, dspec_ctf *other) DSPEC_NOEXCEPT;
 
 /* Opens the next batch of the CPU, whose bytes may be given back after this call. Records of the batch before that were in no packet are missed. Takes memory where
  * there is no room for as many records as its bytes may have, and keeps it for the next batch.

@@ -98,6 +98,7 @@ typedef struct dspec_folder {
     uint8_t *copy;                                         /* for a part of a batch */
     size_t copy_size;
     size_t reserved;                                       /* bytes of the batches for which memory was taken */
+    dspec_ctf reserve;                                     /* has that memory between two batches, whichever CPU's files have it meanwhile */
     dspec_packet writing;                                  /* the packet that is being written; all zeros where none is */
     uint32_t writing_cpu;                                  /* whose it is */
     uint64_t writing_at, writing_records;                  /* how many bytes its file had before it, and how many records the newest folder */
@@ -107,8 +108,8 @@ typedef struct dspec_folder {
  * answers false with DSPEC_TOO_SMALL. The schema stays until the end then. */
 void dspec_folder_limit(dspec_folder *folder, uint64_t bytes, uint32_t folders) DSPEC_NOEXCEPT;
 
-/* Has the trace that is begun next take memory for batches of this many bytes. Those are then written without taking any, unless the trace has a bound and its next folder begins. For
- * each CPU it is some 8 times as much, of which the system gives what is used. */
+/* Has the trace that is begun next take memory for batches of this many bytes. Those are then written without taking any, unless the trace has a bound and its next folder begins. It is
+ * some 9 times as much, whichever number of CPUs there are, and with a bound 11 times. The system gives what is used of it. */
 void dspec_folder_reserve(dspec_folder *folder, size_t len) DSPEC_NOEXCEPT;
 
 /* Begins a trace in a folder, which is made where it isn't there, and may have no trace yet. The CPUs are those of the session, 1 to 64, and each gets its first

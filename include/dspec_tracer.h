@@ -97,7 +97,7 @@ typedef struct dspec_tracer_options {
     uint32_t paths;      /* 32: how many paths are open on a lane at a time; 1 to 63, with keep_last 1 to 31 */
     uint32_t bufsize;    /* 65536: bytes of a principal buffer; each lane has two */
     uint32_t specsize;   /* 4096: bytes of a path; 56 or more, at most bufsize; each lane has `paths` times as many */
-    uint32_t period_ms;  /* 10: how long the consumer sleeps between two rounds; where all lanes are empty it sleeps until one has a record */
+    uint32_t period_ms;  /* 10: how long the consumer sleeps between two rounds; where all lanes are empty it sleeps until one has a record, and a full buffer is written at once */
     uint32_t crash_ms;   /* 500: how long a crash waits until its paths are written */
     bool by_thread;      /* a lane belongs to a thread until that ends; else to a path until that is decided */
     bool no_crash;       /* SIGSEGV and the other crashes are left alone, and there is no event `dspec_crash` */
@@ -424,7 +424,7 @@ uint64_t dspec_tracer_now(void) DSPEC_NOEXCEPT;
     DSPEC_PROBE_CALL_ void PROBE##_switch(dspec_tracer *dspec_tracer_, bool dspec_on_) { dspec_tracer_switch_event(dspec_tracer_, &dspec_event_of_##PROBE, dspec_on_); }                      \
     DSPEC_PROBE_SLOW_ dspec_status PROBE##_in_slowly_(dspec_path *dspec_path_ DSPEC_PROBE_EACH_(DSPEC_PROBE_ARGUMENT_, PROBE, __VA_ARGS__)) {                                                 \
         DSPEC_PROBE_PACKS_(PROBE, __VA_ARGS__)                                                                                                                                                \
-        return dspec_path_put_slowly_(dspec_path_, &dspec_event_of_##PROBE, dspec_words_, (dspec_end_ + 7) / 8);                                                                                      \
+        return dspec_path_record_slowly_(dspec_path_, &dspec_event_of_##PROBE, dspec_words_, (dspec_end_ + 7) / 8);                                                                                      \
     }                                                                                                                                                                                         \
     DSPEC_PROBE_CALL_ dspec_status PROBE##_in(dspec_path *dspec_path_ DSPEC_PROBE_EACH_(DSPEC_PROBE_ARGUMENT_, PROBE, __VA_ARGS__)) {                                                         \
         DSPEC_PROBE_SDT_(PROBE, __VA_ARGS__)                                                                                                                                                  \

@@ -10,6 +10,7 @@
  *   SLEEPS: before each round the consumer sleeps where it would find nothing, until somebody stirs it
  *   KEEPS: at the end of its last path a thread may keep its lane, by one of KEEPERS flags; STARTS_KEPT: thread 0 does so from the start; KEEPS_ONCE: then alone
  *   WANTS: thread 1 makes nothing but a call on a lane that it claims or takes over, and gives that up
+ *   FULLS: a call may find its buffer full, so that it begins the other one and wakes the consumer; batches are switched out, taken and given back
  *   USES_END, USES_PLAIN, HANDS: which calls the threads make, so that no other is compiled
  *   F_..: a planted fault
  */
@@ -122,12 +123,19 @@ bit moved[NP]; /* a path that was handed on */
 byte posted; bit fin[NT]; bit hrun[NT]; bit crashed[NT]; byte hleft = HANDLERS; byte cleft = CRASHES; bit anycrash;
 bit cend; bit stuck[NL];
 bit asleep; bit rung; /* the consumer says that it sleeps; somebody has rung since */
+#ifdef FULLS
+/* is_full; the next batch is asked for; there is a spare buffer, a batch that nobody has taken; the consumer has noted that the last one is back; a ring for a full buffer that wasn't heard. */
+bit is_full[NL]; bit asked[NL] = 1; bit spare[NL] = 1; bit switched[NL]; bit is_back[NL] = 1; bit rung_full;
+#endif
 
 /* ---- What only the assertions look at. ---- */
 
 byte gin[NL]; bit gdat[NL]; bit ggone[NL];              /* who is in the lane's memory; what stands there; whether it is freed */
 byte fate[NP]; bit begun[NP]; byte glane[NP]; bit gleft[NP]; /* gleft: its end left it to the next one that has the lane */
 byte gi; byte gj; bit gf;
+#ifdef FULLS
+bit old[NL]; bit old_out[NL]; bit full_out[NL]; /* the buffer that is filled, and the batch that is out, have something from before the round asked for it; the batch that is out was full */
+#endif
 
 #define CAN_GIVE_UP (GIVEUP || anycrash)
 
@@ -397,6 +405,58 @@ inline assert_open(t) {
 inline seat_leave(t) { atomic { assert_open(t); busy[t] = 0 } }
 inline seat_owns(t, l) { own[t] = l; plain[t] = (l == NOBODY) }
 
+#ifdef FULLS
+/* ---- session.c, path.c: full buffers. ---- */
+
+/* `sealed` says whether the lane has switched. */
+inline lane_serve(l, since_full) {
+    atomic {
+        if
+        :: asked[l] && spare[l] -> assert(is_back[l]); asked[l] = 0; spare[l] = 0; switched[l] = 1; old_out[l] = old[l]; old[l] = 0; full_out[l] = since_full; sealed = 1
+        :: else -> sealed = 0
+        fi }
+}
+inline consumer_writes(t) { atomic { DRAIN(t); rung_full = 1 } }
+inline lane_makes_room(t, l) {
+    lane_serve(l, 1);
+    if
+#ifdef F_FULL_IS_RUNG_FIRST
+    :: sealed -> consumer_writes(t); is_full[l] = 1; sealed = 0
+#else
+    :: sealed -> is_full[l] = 1; consumer_writes(t); sealed = 0
+#endif
+    :: else
+    fi
+}
+/* Whether there is no room is left open; and of a record in its caller, which is made once more then, whether there is some in the other buffer. */
+#define MAY_FILL(t, l) if :: lane_makes_room(t, l) :: skip fi
+#define MAY_TURN(t, l) if :: lane_makes_room(t, l); if :: done = 0 :: skip fi :: skip fi
+#else
+#define MAY_FILL(t, l) skip
+#define MAY_TURN(t, l) skip
+#endif
+
+/* In the call. */
+inline serve_if_asked(t, l) {
+#ifdef FULLS
+    if
+    :: st[l] & SERVE -> lane_serve(l, 0);
+        if
+#ifdef F_SERVED_UNSWITCHED
+        :: true
+#else
+        :: sealed
+#endif
+            -> if :: atomic { DRAIN(t); st[l] = st[l] & ~SERVE } :: skip fi; sealed = 0 /* something of the lane may be left */
+        :: else
+        fi
+    :: else
+    fi
+#else
+    if :: st[l] & SERVE -> atomic { DRAIN(t); st[l] = st[l] & ~SERVE } :: else fi
+#endif
+}
+
 /* ---- lane.c: which lane. ---- */
 
 #define CLAIMED (of_locked -> s : (s & ~SHARED))
@@ -407,8 +467,8 @@ inline seat_owns(t, l) { own[t] = l; plain[t] = (l == NOBODY) }
 #define PUSH_USE(t, l, v, r) PUSH(t, 1+2*NL+FLAG_OF(l, keeper[t]), v, r)
 
 inline flag_free(t, l) { atomic { DRAIN(t); in_use[FLAG_OF(l, keeper[t])] = 0; flag_taken[FLAG_OF(l, keeper[t])] = 0 } }
-/* Whether it is kept is left open, where it could be. */
-inline lane_keeps(t, l) {
+/* Whether it is kept is left open, where it could be. is: its state as long as nobody is in the way. */
+inline lane_keeps(t, l, is) {
 #ifdef KEEPS_ONCE
     skip
 #else
@@ -420,8 +480,14 @@ inline lane_keeps(t, l) {
            od; gj = 0 };
        if
        :: keeper[t] != 0 ->
-            atomic { DRAIN(t); assert(handed[l] == 0); if :: st[l] == 2*USER -> st[l] = RESTS(t); cas = 1 :: else fi };
-            if :: cas -> skip :: else -> flag_free(t, l); keeper[t] = 0 fi
+            atomic { DRAIN(t); assert((is) == 0 || handed[l] == 0);
+#ifdef F_KEEPS_UNCOMPARED
+                st[l] = RESTS(t); cas = 1
+#else
+                if :: st[l] == (is) -> st[l] = RESTS(t); cas = 1 :: else fi
+#endif
+            };
+            if :: cas -> handed[l] = 0 :: else -> flag_free(t, l); keeper[t] = 0 fi
        :: else
        fi
     :: skip
@@ -514,7 +580,7 @@ inline lane_rests(t, l, isown) {
     if
     :: isown && openc[t] == 1 && keeper[t] != 0 ->
         atomic { HAS_ROOM(t) -> PUSH_USE(t, l, 0, 1); cas = 1 }
-    :: isown && openc[t] == 1 && keeper[t] == 0 -> lane_keeps(t, l)
+    :: isown && openc[t] == 1 && keeper[t] == 0 -> lane_keeps(t, l, 2*USER)
     :: else
     fi;
     if :: cas -> A_ openc[t] = 0; seat_owns(t, NOBODY) _A :: else fi
@@ -820,7 +886,8 @@ inline end(t, p) {
         atomic { x = 0; if :: oid[on*NP+pplace[p]] == p+1 -> otok[on*NP+pplace[p]] = t+1; decide(on, pplace[p], KEPT); x = 1 :: else fi };
         if
         :: x ->
-            if :: st[on] & SERVE -> atomic { DRAIN(t); st[on] = st[on] & ~SERVE } :: else fi;
+            MAY_FILL(t, on);
+            serve_if_asked(t, on);
             atomic { if :: oown[on*NP+pplace[p]] != isown -> handed[on]++ :: else fi; oid[on*NP+pplace[p]] = 0 };
             lane_leave(t, on);
 #ifdef F_OFF_TWICE
@@ -853,8 +920,9 @@ inline end_on_own(t, p) {
             atomic { x = 0; if :: oid[on*NP+pplace[p]] == p+1 -> decide(on, pplace[p], KEPT); x = 1 :: else fi };
             if
             :: x ->
+                MAY_FILL(t, on);
                 A_ pover[p] = 1; ptok[p] = 0 _A;
-                if :: st[on] & SERVE -> atomic { DRAIN(t); st[on] = st[on] & ~SERVE } :: else fi;
+                serve_if_asked(t, on);
                 atomic { if :: !oown[on*NP+pplace[p]] -> handed[on]++ :: else fi; oid[on*NP+pplace[p]] = 0 }
             :: else
             fi;
@@ -883,34 +951,126 @@ inline ends(t, p) {
     fi
 }
 
-/* `done` says whether. */
+/* On the lane that the thread keeps, without a lock. `done` says whether. */
+#ifdef KEEPS
+#ifdef F_ALONE_NO_INSIDE
+#define ALONE_IN(t) atomic { in = ALONE; into(t, on) }
+#define ALONE_OUT(t) atomic { HAS_ROOM(t) -> gin[on] = 0 }
+#endif
+#ifdef F_ALONE_LOOKS_ONCE
+#define ALONE_IN(t) atomic { HAS_ROOM(t) -> PUSH(t, 1+on, 1, 0) }; atomic { HAS_ROOM(t) -> in = ALONE; into(t, on) }
+#endif
+#ifndef ALONE_IN
+#define ALONE_IN(t) dspec_tracer_enter_(t, on)
+#endif
+#ifndef ALONE_OUT
+#define ALONE_OUT(t) dspec_tracer_leave_(t, on)
+#endif
+#define ALONE_RESTS(t) atomic { HAS_ROOM(t) -> PUSH_USE(t, on, 0, 1) }
 inline dspec_tracer_try_(t) {
     if
     :: plain[t] ->
-        A_ plain[t] = 0; on = last[t] _A;
-#ifdef KEEPS
-        atomic { DRAIN(t); s = (keeper[t] != 0 -> RESTS(t) : 0); if :: st[on] == s -> st[on] = s + HELD; in = BY_LOCK; into(t, on) :: else -> in = NOT_IN fi; s = 0 };
+        A_ plain[t] = 0;
+#ifdef F_ALONE_OWN_UNASKED
+        on = (keeper[t] != 0 -> last[t] : NOBODY)
 #else
-        atomic { DRAIN(t); if :: st[on] == 0 -> st[on] = HELD; in = BY_LOCK; into(t, on) :: else -> in = NOT_IN fi };
+        on = (own[t] == NOBODY && keeper[t] != 0 -> last[t] : NOBODY)
 #endif
-        if :: in -> lane_leave_locked(t, on); done = 1 :: else fi;
+        _A;
+        if
+        :: on != NOBODY ->
+#ifdef F_ALONE_INSIDE_FIRST
+            atomic { HAS_ROOM(t) -> PUSH(t, 1+on, 1, 0) };
+#endif
+            lane_is_kept(t, on, 0);
+            if
+            :: cas ->
+                A_ cas = 0; in = NOT_IN _A;
+#ifdef F_ALONE_INSIDE_FIRST
+                atomic { HAS_ROOM(t) -> in = ALONE; into(t, on) };
+#else
+                ALONE_IN(t);
+#endif
+#ifdef F_ALONE_RESTS_EARLY
+                ALONE_RESTS(t);
+#endif
+                if :: in -> done = 1; MAY_TURN(t, on); ALONE_OUT(t) :: else fi;
+#if !defined(F_ALONE_RESTS_EARLY) && !defined(F_ALONE_STAYS_IN_USE)
+                ALONE_RESTS(t)
+#endif
+            :: else ->
+#ifdef F_ALONE_INSIDE_FIRST
+                atomic { HAS_ROOM(t) -> PUSH(t, 1+on, 0, 1) }
+#endif
+            fi
+        :: else
+        fi;
+#ifdef F_ALONE_OWN_UNASKED
         A_ plain[t] = 1; in = NOT_IN; on = NOBODY _A
+#else
+        A_ plain[t] = (own[t] == NOBODY); in = NOT_IN; on = NOBODY _A
+#endif
     :: else
     fi
 }
-inline lane_for_record(t) {
+#define NOT_KEEPING(t) keeper[t] == 0
+#else
+inline dspec_tracer_try_(t) { skip }
+#define NOT_KEEPING(t) true
+#endif
+/* A thread that hands its paths on keeps no lane. `done` says whether. */
+inline record_by_lock(t) {
+    if
+    :: !busy[t] -> A_ busy[t] = 1; on = (plain[t] && NOT_KEEPING(t) -> last[t] : NOBODY) _A;
+        if
+        :: on != NOBODY ->
+            atomic { DRAIN(t); if :: st[on] == 0 -> st[on] = HELD; in = BY_LOCK; into(t, on) :: else -> in = NOT_IN fi };
+            if
+            :: in -> MAY_FILL(t, on); lane_leave_locked(t, on); done = 1;
 #ifdef KEEPS
-    if :: own[t] == NOBODY && keeper[t] != 0 -> lane_unkeep(t, 2); kept = 0 :: else fi;
+                if :: hands_on[t] == 0 -> lane_keeps(t, on, 0); cas = 0 :: else fi
+#endif
+            :: else
+            fi
+        :: else
+        fi;
+        A_ busy[t] = 0; in = NOT_IN; on = NOBODY _A
+    :: else
+    fi
+}
+/* isown: it is the thread's own as for a path, which this record stands for. */
+inline lane_for_record(t) {
+    isown = 0;
+#ifdef KEEPS
+    if
+    :: own[t] == NOBODY && keeper[t] != 0 ->
+        lane_is_kept(t, last[t], ANYONE);
+        if :: cas -> A_ cas = 0; seat_owns(t, last[t]); isown = 1 _A :: else -> lane_unkeep(t, 2); kept = 0 fi
+    :: else
+    fi;
 #endif
     on = own[t];
     if
     :: on == NOBODY -> on = last[t];
-#if NL > 1
         A_ if :: st[on] < USER && !(st[on] & (HELD|WANTED)) -> skip
-        :: else -> if :: st[1-on] < USER && !(st[1-on] & (HELD|WANTED)) -> on = 1-on; last[t] = on :: else fi fi _A
+        :: else ->
+#if NL > 1
+            if :: st[1-on] < USER && !(st[1-on] & (HELD|WANTED)) -> on = 1-on; last[t] = on :: else -> on = NOBODY fi
+#else
+            on = NOBODY
 #endif
+        fi _A;
+#ifdef KEEPS
+        do
+        :: i < NL && on == NOBODY -> takes_over(t, (last[t]+i)%NL); i++
+        :: else -> break
+        od;
+        A_ isown = (own[t] != NOBODY); i = 0 _A;
+#endif
+        if :: on == NOBODY -> on = last[t] :: else fi
     :: else
-    fi
+    fi;
+    openc[t] = openc[t] + isown
 }
 /* record_on_own is its first way in */
 inline record_slowly(t) {
@@ -920,17 +1080,36 @@ inline record_slowly(t) {
         lane_for_record(t);
         lane_enter(t, on);
         if
-        :: in -> if :: st[on] & SERVE -> atomic { DRAIN(t); st[on] = st[on] & ~SERVE } :: else fi; lane_leave(t, on)
+        :: in -> MAY_FILL(t, on); serve_if_asked(t, on); lane_leave(t, on)
         :: else
         fi;
+#ifdef F_ALONE_STAYS_OWN
+        skip;
+#else
+        if :: isown -> lane_path_off(t, on, 1) :: else fi;
+#endif
         seat_leave(t)
     :: else
     fi;
-    A_ x = 0; in = 0; on = NOBODY _A
+    A_ x = 0; in = 0; isown = 0; on = NOBODY _A
 }
+#ifdef KEEPS
+/* A lane that is kept rests after a record alone, as its thread sees it; else no other could take it over. */
+inline assert_rests(t) {
+    d_step {
+        if
+        :: own[t] == NOBODY && keeper[t] != 0 -> gi = FLAG_OF(last[t], keeper[t]); x = in_use[gi]; load(t, 1+2*NL+FLAG_OF(last[t], keeper[t]), x); assert(!x)
+        :: else
+        fi; x = 0; gi = 0 }
+}
+#else
+#define assert_rests(t) skip
+#endif
 inline dspec_tracer_record(t) {
     dspec_tracer_try_(t);
+    if :: !done -> record_by_lock(t) :: else fi;
     if :: !done -> record_slowly(t) :: else fi;
+    assert_rests(t);
     done = 0
 }
 
@@ -1007,7 +1186,12 @@ inline wants_lane(t) {
 #endif
 
 #define LOCALS byte on = NOBODY; byte i = 0; byte bi = 0; byte users = 0; short s = 0; byte in = NOT_IN; byte how = NOT_IN; bit out = 0; bit ok = 0; bit cas = 0; bit alone = 0; bit x = 0; bit x2 = 0; bit was_idle = 0; bit d = 0; \
-    byte pre = 2; bit done = 0; bit noted = 0; bit isown = 0; bit has = 0; bit spent = 0; bit kept = 0; byte k = 0; byte tries = 0; byte was_own = NOBODY OWN_SEATS OWN_PATHS
+    byte pre = 2; bit done = 0; bit noted = 0; bit isown = 0; bit has = 0; bit spent = 0; bit kept = 0; byte k = 0; byte tries = 0; byte was_own = NOBODY SEALED OWN_SEATS OWN_PATHS
+#ifdef FULLS
+#define SEALED ; bit sealed = 0
+#else
+#define SEALED
+#endif
 
 #if HANDLERS > 0
 #define UNLESS_HANDLER provided (!hrun[_pid])
@@ -1106,6 +1290,13 @@ end_memory:
 
 /* ---- lane.c, consumer.c: the consumer. ---- */
 
+#define QUIET(t) (fin[t] || crashed[t])
+#if NT > 2
+#define ALL_QUIET (QUIET(0) && QUIET(1) && QUIET(2))
+#else
+#define ALL_QUIET (QUIET(0) && QUIET(1))
+#endif
+
 /* `got` says whether. timed 0: it waits for nothing. */
 inline lane_take(l, bits, timed) {
     held = 0; alone = 0; got = 0; over = !(timed);
@@ -1163,11 +1354,60 @@ inline lane_release(l) {
 inline c_memory(l) { atomic { assert(gin[l] == 0); assert(dat[l] == gdat[l]); gin[l] = CONSUMER; dat[l] = 1-dat[l]; gdat[l] = dat[l] } }
 inline c_leaves(l) { gin[l] = 0 }
 
-/* Whether a service found the lane empty is the library's; here it may or may not. */
+#ifdef FULLS
+#define IS_SEALED sealed
+/* takes, brings */
+inline lane_write(l) {
+    atomic { if :: switched[l] -> switched[l] = 0; is_back[l] = 0; old_out[l] = 0; full_out[l] = 0; taken = 1 :: else fi };
+    if
+    :: taken -> spare[l] = 1;
+#ifdef F_ASKED_BEFORE_NOTED
+        asked[l] = 1; is_back[l] = 1;
+#else
+        is_back[l] = 1; asked[l] = 1;
+#endif
+        taken = 0
+    :: else
+    fi
+}
+inline write_full() {
+    do
+    :: i < NL -> if :: is_full[i] -> is_full[i] = 0; lane_write(i) :: else fi; i++
+    :: else -> i = 0; break
+    od
+}
+#define NONE_FULL (!is_full[0] && !full_out[0] && !is_full[NL-1] && !full_out[NL-1])
+/* Its time may be over at any time, or with for_ever once all threads are: then what they switched out since it was full is written. */
+inline is_rung(for_ever) {
+    do
+    :: true ->
+#ifdef F_FULL_IS_HEARD_LAST
+        write_full(); rung_full = 0;
+#else
+        rung_full = 0; write_full();
+#endif
+        if
+        :: rung -> break
+        :: rung_full
+        :: !(for_ever) -> break
+        :: atomic { (for_ever) && ALL_QUIET && !rung && !rung_full -> assert(NONE_FULL) }; break
+        fi
+    od
+}
+#else
+#define IS_SEALED true
+#define is_rung(for_ever) skip
+#endif
+
+/* Whether a service that switched found the lane empty is the library's; here it may or may not. */
 inline serve_between(l, timed) {
     lane_take(l, 0, timed);
     if
-    :: got -> c_memory(l); path_throw_left(l); c_leaves(l); if :: st[l] = st[l] | IDLE :: skip fi; lane_release(l)
+    :: got -> c_memory(l); path_throw_left(l);
+#ifdef FULLS
+        lane_serve(l, 0);
+#endif
+        c_leaves(l); if :: IS_SEALED -> st[l] = st[l] | IDLE :: skip fi; lane_release(l)
     :: else
     fi
 }
@@ -1186,11 +1426,34 @@ inline drain_lane(l, timed) {
     od; pass = 0
 #define ALL ((1 << NL) - 1)
 inline drain() { w = ALL; EACH_LANE(drain_lane(l, pass)); w = 0 }
-/* ask_busy, and the services of those whose threads made none */
+#ifdef FULLS
+#define NOTE_OLD(l) old[l] = 1; old_out[l] = switched[l]
+/* What the lane had before the round asked is written, but where its thread is in the way. */
+inline finish_lane(l) {
+    atomic { got = 1 };
+#ifndef F_SERVED_BEFORE_WRITTEN
+    lane_write(l);
+#endif
+    if :: st[l] & SERVE -> serve_between(l, 0) :: else fi;
+    lane_write(l);
+    atomic { assert(!got || (!old[l] && !old_out[l])); old[l] = 0; old_out[l] = 0; got = 0; sealed = 0 }
+}
+#else
+#define NOTE_OLD(l) skip
+inline finish_lane(l) { if :: st[l] & SERVE -> serve_between(l, 0); got = 0 :: else fi }
+#endif
+inline ask_busy() {
+    atomic { l = 0; w = 0; do :: l < NL -> if :: st[l] & IDLE -> skip :: else -> st[l] = st[l] | SERVE; w = w | (1 << l); NOTE_OLD(l) fi; l++ :: else -> break od; l = 0 }
+}
+/* Those whose threads made a service need none of it. */
 inline make_round() {
-    atomic { l = 0; w = 0; do :: l < NL -> if :: st[l] & IDLE -> skip :: else -> st[l] = st[l] | SERVE; w = w | (1 << l) fi; l++ :: else -> break od; l = 0 };
+#ifdef FULLS
+    write_full();
+#endif
+    ask_busy();
+    is_rung(0);
     do
-    :: l < NL -> if :: ((w >> l) & 1) && (st[l] & SERVE) -> serve_between(l, 0); got = 0 :: else fi; l++
+    :: l < NL -> if :: (w >> l) & 1 -> finish_lane(l) :: else fi; l++
     :: else -> break
     od; l = 0; w = 0
 }
@@ -1289,13 +1552,6 @@ inline assert_ended() {
         do :: l < NL -> if :: !stuck[l] -> assert((st[l] & GONE) && (st[l] & HELD)); assert(!(st[l] & WANTED)) :: else -> assert(anycrash || GIVEUP) fi; l++ :: else -> break od; l = 0 }
 }
 
-#define QUIET(t) (fin[t] || crashed[t])
-#if NT > 2
-#define ALL_QUIET (QUIET(0) && QUIET(1) && QUIET(2))
-#else
-#define ALL_QUIET (QUIET(0) && QUIET(1))
-#endif
-
 #define IS_IDLE(l) ((st[l] & IDLE) != 0)
 #if NL > 1
 #define ALL_IDLE (IS_IDLE(0) && IS_IDLE(1))
@@ -1314,16 +1570,26 @@ inline sleep_idle() {
 #else
     asleep = 1; idle_for();
 #endif
+#ifdef FULLS
+    if :: w -> is_rung(1); if :: rung :: else -> assert(ALL_IDLE) fi :: else fi;
+#else
     if :: w -> if :: rung :: ALL_QUIET -> atomic { assert(rung || ALL_IDLE) } fi :: else fi;
+#endif
     atomic { asleep = 0; rung = 0; w = 0 }
 }
 
 active proctype C() {
     byte r = 0; bit got = 0; bit held = 0; bit alone = 0; bit over = 0; byte l = 0; byte bi = 0; byte w = 0; byte c = 0; byte pass = 0; byte users = 0; short was = 0; byte token = 0; byte k = 0; byte mark = 0;
+#ifdef FULLS
+    bit sealed = 0; bit taken = 0; byte i = 0;
+#endif
     do
     :: r < ROUNDS -> r++;
 #ifdef SLEEPS
         sleep_idle();
+#endif
+#ifdef FULLS
+        if :: is_rung(1) :: is_rung(0) fi; /* its period is long, or short */
 #endif
 #if CRASHES > 0
         save_crashes();

@@ -8,7 +8,8 @@
  * A thread that had a lane alone for many paths keeps it between them. Such a lane counts its owner and one path, which is none while the lane is at rest: so the thread's next path begins, and its last
  * one ends, without a locked instruction. The thread has a flag in `uses` for that, and the lane's state has the flag's number. The flag says whether the thread uses the lane: it sets the flag, and
  * looks whether the state is still what it left. Another thread that finds no lane that is free takes one that is kept: it sets HELD and takes the number out, has every processor come to an order, and
- * looks at the flag. Where that is in use, the number comes back. A thread whose lane was taken finds another state, and has its flag until then.
+ * looks at the flag. Where that is in use, the number comes back. A thread whose lane was taken finds another state, and has its flag until then. A record that is in no path uses the lane as a path
+ * does, and is in a call there meanwhile.
  */
 #ifndef DSPEC_TRACER_BODY_H
 #define DSPEC_TRACER_BODY_H
@@ -36,12 +37,13 @@ typedef struct dspec_tracer_body body;
 
 /* Of a lane's state: six bits; the number of the flag by which a thread keeps it; and above them how many paths are on it, and 1 more where it is a thread's own. WANTED has threads that share a lane
  * hold back, so that the consumer gets its turn. */
-enum { HELD = DSPEC_TRACER_HELD_, GONE = 2, SERVE = 4, IDLE = 8, SHARED = 16, WANTED = 32, FLAG = 64, FLAGS = 7, KEPT = FLAGS * FLAG, USER = 512 };
+enum { HELD = DSPEC_TRACER_HELD_, GONE = 2, SERVE = 4, IDLE = 8, SHARED = 16, WANTED = 32, FLAG = DSPEC_TRACER_FLAG_, FLAGS = DSPEC_TRACER_FLAGS_, KEPT = FLAGS * FLAG, USER = 512 };
 /* A lane that is kept and that nobody wants counts its owner and one path. */
 enum { AT_REST = 2 * USER };
 static_assert(KEPT + AT_REST <= UINT16_MAX, "a seat has it");
+static_assert(AT_REST == DSPEC_TRACER_AT_REST_ && KEPT < USER, "the header's numbers are these");
 /* Of a flag: it is nobody's; its thread doesn't use the lane, or does. */
-typedef enum use { FREE_FLAG = 0, RESTS = 1, IN_USE = 2 } use;
+typedef enum use { FREE_FLAG = 0, RESTS = DSPEC_TRACER_RESTS_, IN_USE = DSPEC_TRACER_IN_USE_ } use;
 static_assert((HELD | GONE | IDLE | SHARED | WANTED) == DSPEC_TRACER_LOOK_, "the header's LOOK is these");
 /* Within these bounds somebody waits for lanes, in microseconds: a thread for one, the consumer in a turn of a flush and at the end for all; in a round for none. */
 enum { ENTER_US = 1000000, TAKE_US = 20000, CLOSE_US = 5000000 };
@@ -101,8 +103,7 @@ struct lane {
     uint32_t number;
     uint32_t opened; /* the number of the path that was opened last */
     body *tracer;
-    uint8_t uses[FLAGS + 1]; /* by their numbers, which begin with 1 */
-    uint32_t had_by, in_a_row; /* the token of the thread whose own it was last, and for how many paths in a row; written by that */
+    uint32_t had_by, in_a_row; /* the token of the thread that had it alone last, and for how many paths or records in a row; written by that */
     dspec_paths paths;
     parked_paths parked; /* with park_bytes */
     uint64_t kept, thrown, cut, cut_records; /* kept, thrown: until now, which others may look at at any time; the last word is the table's */
@@ -114,6 +115,9 @@ struct lane {
     uint64_t own_accepted, own_lost, own_discarded; /* of the counts of its CPU the paths' events, which are no records of the program */
     uint32_t owes;
     uint64_t owed_at, owed[WORDS_OF_PATH]; /* the event of a path whose records are kept, where it has had no room after them: the next buffer begins with it */
+    uint32_t is_full; /* a full buffer was switched out, and the consumer hasn't come for it yet */
+    uint32_t again[2]; /* of the batch that is out, by its number from the first one on, modulo 2: so many of its drops are records that were offered again after it, */
+    uint64_t all_again; /* and of all batches */
     dspec_batch out; /* which the folder is getting, where `bringing` says so */
     uint64_t before; /* how many records the folder had before it */
     uint32_t bringing;
@@ -130,8 +134,8 @@ struct lane {
     dspec_consumer consumer;
 };
 
-/* Of a batch: none is out, the folder is getting it, the folder has it, the library is asked for it. */
-enum { NOT_OUT = 0, IS_BROUGHT = 1, WAS_BROUGHT = 2, IS_TAKEN = 3 };
+/* Of a batch: none is out, the folder is getting it, the library is getting it back, the library is asked for it, the library has handed it out. */
+enum { NOT_OUT = 0, IS_BROUGHT = 1, WAS_BROUGHT = 2, IS_TAKEN = 3, WAS_TAKEN = 4 };
 /* What a lane owes: nothing, a path's event, or the event of a path whose first part is kept and whose last waits for room. */
 enum { OWES_NOTHING = 0, OWES_EVENT = 1, IS_CLAIMED = 2 };
 /* Of a service: none is made, the library makes it, it has switched. */
@@ -160,6 +164,9 @@ struct crash {
     sender by;
     uint64_t here[2]; /* what a watch asked of the thread */
 };
+
+/* What is added to the rings: by a thread that has switched a full buffer out, which is written between two turns, and by all others. */
+enum { FULL_RING = 1, RING = 256 };
 
 /* A consumer that has ended hears of no signal. */
 #define NO_MORE_SIGNALS UINT32_MAX
@@ -295,8 +302,8 @@ typedef enum way { NOT_IN = 0, ALONE = 1, BY_LOCK = 2 } way;
 way lane_enter_slowly(dspec_tracer_seat *seat, struct lane *lane);
 struct lane *lane_for_path(body *tracer, dspec_tracer_seat *seat); /* one more path is on it; NULL where none has room */
 struct lane *lane_shared(body *tracer, uint32_t number); /* likewise, on this one */
-struct lane *lane_for_record(body *tracer, dspec_tracer_seat *seat);
-bool lane_keeps(dspec_tracer_seat *seat, struct lane *lane); /* whether the thread keeps the lane from now on, which was its own for one path */
+struct lane *lane_for_record(body *tracer, dspec_tracer_seat *seat, bool *as_path); /* as_path: it is the thread's own for this record, as for a path, and is let go as after one */
+bool lane_keeps(dspec_tracer_seat *seat, struct lane *lane, uint32_t state); /* whether the thread keeps the lane that it had alone last, from now on; state: the lane's, where nobody else is on it */
 void lanes_give_up(dspec_tracer_seat *seat); /* the thread's own lane, and the one that it keeps */
 /* The consumer's: whether it has the lane, between two calls. With GONE in bits no thread gets in any more. */
 bool lane_take(struct lane *lane, uint32_t bits, patience *left);
@@ -322,8 +329,11 @@ bool path_pays(struct lane *lane); /* puts what the lane owes into a buffer that
 bool options_take(dspec_tracer *tracer, const dspec_tracer_options *options, size_t size, dspec_tracer_options *taken);
 dspec_config lane_config(const dspec_tracer_options *options);
 dspec_status lane_start(struct lane *lane, const dspec_tracer_options *options, dspec_schema *schema);
-void lane_ask(struct lane *lane);
-void lane_serve(struct lane *lane, bool *is_empty);
+bool lane_serve(struct lane *lane, bool *is_empty); /* whether it has switched */
+/* What a buffer has no room for: a record was dropped for that, and a path waits. Whether the other buffer was begun in its place, so that the record is offered again, and isn't counted as dropped before that.
+ * The caller has the lane. */
+typedef enum roomless { A_PATH = 0, A_RECORD = 1 } roomless;
+bool lane_makes_room(struct lane *lane, roomless what);
 void lane_write(body *tracer, struct lane *lane);
 void lane_empty(body *tracer, struct lane *lane); /* both buffers; the caller has the lane */
 void lane_clean(struct lane *lane);
@@ -353,6 +363,7 @@ uint64_t clock_nanoseconds(const body *tracer, uint64_t ticks); /* so many ticks
 
 void *consumer_runs(void *of);
 void consumer_wakes(body *tracer);
+void consumer_writes(body *tracer); /* what was switched out since it was full */
 /* Wakes a consumer that makes no rounds, after something that they are for: a lane that was found empty gets a call, or there is something to tell. */
 void consumer_stirs(body *tracer);
 void consumer_ends_by_signal(body *tracer);
@@ -511,15 +522,11 @@ static inline void seat_owns(dspec_tracer_seat *seat, dspec_tracer_lane *own) {
     STORE(&seat->plain, own != NULL ? DSPEC_TRACER_NONE_ : seat->run);
 }
 
-/* The flag of the thread that keeps a lane, by the lane's state at rest. */
-static inline uint8_t *flag_of(struct lane *lane, size_t kept) { return &lane->uses[kept / FLAG - AT_REST / FLAG]; }
-
-/* The lane that the thread keeps is at rest. Others see what it did there, once they see the flag. */
-static inline void lane_rests(dspec_tracer_seat *seat, struct lane *lane) { __atomic_store_n(flag_of(lane, seat->kept), RESTS, __ATOMIC_RELEASE); }
+static inline void lane_rests(const dspec_tracer_seat *seat, struct lane *lane) { dspec_tracer_rests_(&lane->front, seat->kept); }
 
 /* After the last path that its thread began there: whether the thread keeps the lane for its next one. */
 static inline bool lane_is_left(dspec_tracer_seat *seat, struct lane *lane) {
-    if (!LIKELY(seat->kept != 0) && (lane->tracer->by_thread || !lane_keeps(seat, lane))) return false;
+    if (!LIKELY(seat->kept != 0) && (lane->tracer->by_thread || !lane_keeps(seat, lane, AT_REST))) return false;
     seat_owns(seat, NULL);
     lane_rests(seat, lane);
     return true;
@@ -528,7 +535,7 @@ static inline bool lane_is_left(dspec_tracer_seat *seat, struct lane *lane) {
 /* A path is over. own: whether its thread began it on its own lane. */
 static inline void lane_path_off(dspec_tracer_seat *seat, struct lane *lane, bool own) {
     uint32_t users = 1;
-    if (own && --seat->open == 0) {
+    if (LIKELY(own) && LIKELY(--seat->open == 0)) {
         if (LIKELY(lane_is_left(seat, lane))) return;
         if (!lane->tracer->by_thread) {
             seat_owns(seat, NULL);
@@ -538,15 +545,7 @@ static inline void lane_path_off(dspec_tracer_seat *seat, struct lane *lane, boo
     __atomic_fetch_sub(&lane->front.state, users * USER, __ATOMIC_SEQ_CST);
 }
 
-/* Uses the lane again that the thread keeps, for a path: whether nobody has taken it, is on it or wants it. but: bits of its state that are no matter. */
-static inline bool lane_is_kept(const dspec_tracer_seat *seat, struct lane *lane, uint32_t but) {
-    const uint32_t kept = seat->kept;
-    STORE(flag_of(lane, kept), IN_USE);
-    __atomic_signal_fence(__ATOMIC_SEQ_CST);
-    if (LIKELY((__atomic_load_n(&lane->front.state, __ATOMIC_ACQUIRE) & ~but) == kept)) return true;
-    __atomic_store_n(flag_of(lane, kept), RESTS, __ATOMIC_RELEASE);
-    return false;
-}
+static inline bool lane_is_kept(const dspec_tracer_seat *seat, struct lane *lane, uint32_t but) { return dspec_tracer_uses_(&lane->front, seat->kept, but); }
 
 /* Claims a lane for a path, where nobody is on it and none of its bits is set, and the thread doesn't hand its paths on: whether it has it. */
 static inline bool lane_claim(struct lane *lane) {
@@ -558,7 +557,7 @@ static inline bool lane_claim(struct lane *lane) {
 
 /* Makes the lane that a thread had last its own, for a path, where it keeps that or can claim it: whether it is. */
 static inline bool lane_claim_last(dspec_tracer_seat *seat, struct lane *lane) {
-    if (!LIKELY(seat->kept != 0 ? lane_is_kept(seat, lane, 0) : lane_claim(lane))) return false;
+    if (!LIKELY(LIKELY(seat->kept != 0) ? lane_is_kept(seat, lane, 0) : lane_claim(lane))) return false;
     seat->own = &lane->front;
     STORE(&seat->plain, DSPEC_TRACER_NONE_);
     return true;

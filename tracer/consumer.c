@@ -18,10 +18,14 @@ enum { MOST_SERVICES = 3 };
 static uint64_t all_of(const body *tracer) { return (UINT64_C(1) << tracer->count) - 1; }
 
 /* The C library's write would end the thread where it was cancelled. */
-void consumer_wakes(body *tracer) {
-    __atomic_fetch_add(&tracer->rings, 1, __ATOMIC_SEQ_CST);
+static void ring(body *tracer, uint32_t by) {
+    __atomic_fetch_add(&tracer->rings, by, __ATOMIC_SEQ_CST);
     word_wakes(&tracer->rings);
 }
+
+void consumer_wakes(body *tracer) { ring(tracer, RING); }
+
+void consumer_writes(body *tracer) { ring(tracer, FULL_RING); }
 
 /* A caller has done before what the consumer looks at after it has said that it sleeps. One of those who find it asleep wakes it. */
 void consumer_stirs(body *tracer) {
@@ -29,12 +33,36 @@ void consumer_stirs(body *tracer) {
     if (__atomic_load_n(&tracer->asleep, __ATOMIC_SEQ_CST) != 0 && __atomic_exchange_n(&tracer->asleep, 0, __ATOMIC_SEQ_CST) != 0) consumer_wakes(tracer);
 }
 
-/* Sleeps until somebody rings, or for so long: whether somebody has rung since the last time. */
-static bool is_rung(body *tracer, uint64_t microseconds) {
+/* Writes what threads have switched out since it was full; but what waits for the disk is tried again in a round. */
+static void write_full(body *tracer) {
+    if (dspec_monotonic() < tracer->quiet_until) return;
+    for (uint32_t i = 0; i < tracer->count; i++) {
+        struct lane *lane = &tracer->lanes[i];
+        if (LOAD(&lane->waits_for_disk) || !LOAD(&lane->is_full)) continue;
+        __atomic_exchange_n(&lane->is_full, 0, __ATOMIC_ACQUIRE);
+        lane_write(tracer, lane);
+    }
+}
+
+/* Sleeps until a ring comes that wasn't heard, or for so long. */
+static void sleep_until_rung(body *tracer, uint64_t nanoseconds) {
     const uint32_t heard = tracer->heard;
-    if (__atomic_load_n(&tracer->rings, __ATOMIC_ACQUIRE) == heard) word_waits(&tracer->rings, heard, microseconds == FOREVER ? FOREVER : microseconds * 1000);
+    if (__atomic_load_n(&tracer->rings, __ATOMIC_ACQUIRE) == heard) word_waits(&tracer->rings, heard, nanoseconds);
     tracer->heard = __atomic_load_n(&tracer->rings, __ATOMIC_ACQUIRE);
-    return tracer->heard != heard;
+}
+
+/* Sleeps until somebody rings, or for so long: whether somebody has rung since the last time. What is switched out until then, since it is full, is written. */
+static bool is_rung(body *tracer, uint64_t microseconds) {
+    const uint64_t until = microseconds == FOREVER ? FOREVER : dspec_monotonic() + microseconds * 1000;
+    const uint32_t first = tracer->heard;
+    uint32_t before;
+    do {
+        const uint64_t now = until == FOREVER ? 0 : dspec_monotonic();
+        before = tracer->heard;
+        write_full(tracer);
+        if (now < until) sleep_until_rung(tracer, until == FOREVER ? FOREVER : until - now);
+    } while (tracer->heard != before && tracer->heard - first < RING);
+    return tracer->heard - first >= RING;
 }
 
 bool consumer_served(body *tracer, uint32_t ticket, uint32_t timeout_ms) {
@@ -72,7 +100,6 @@ static bool drain_lane(struct lane *lane, patience *left, void *unused) {
     (void)unused;
     if (LOAD(&lane->waits_for_disk)) lane_write(lane->tracer, lane);
     for (int services = 0; !is_empty && is_served && !LOAD(&lane->waits_for_disk) && services < MOST_SERVICES; services++) {
-        lane_ask(lane);
         is_served = serve_between(lane, left, &is_empty);
         lane_write(lane->tracer, lane);
     }
@@ -94,38 +121,48 @@ static void serve_flush(body *tracer, uint32_t asked) {
     word_wakes(&tracer->served);
 }
 
-/* Asks the lanes that made calls since they were found empty, and their threads to serve them: which ones. */
+/* Asks the threads of those lanes that had calls since they were found empty to serve them: which ones. */
 static uint64_t ask_busy(body *tracer) {
     uint64_t busy = 0;
     for (uint32_t i = 0; i < tracer->count; i++) {
         if (LOAD(&tracer->lanes[i].waits_for_disk)) { /* nothing is switched out meanwhile */
+            state_clear(&tracer->lanes[i], SERVE);
             busy |= UINT64_C(1) << i;
             continue;
         }
         if (state_of(&tracer->lanes[i]) & IDLE) continue;
-        lane_ask(&tracer->lanes[i]);
         state_set(&tracer->lanes[i], SERVE);
         busy |= UINT64_C(1) << i;
     }
     return busy;
 }
 
+/* Serves a lane whose thread has made no service since it was asked, and writes what it had before that; false: some of it is left. A service switches nothing while a full buffer is out, so that is
+ * written first. */
+static bool finish_lane(body *tracer, struct lane *lane) {
+    const bool is_asked = !LOAD(&lane->waits_for_disk);
+    patience none = patience_of(0);
+    bool is_served = false, is_empty = true;
+    lane_write(tracer, lane);
+    if (!LOAD(&lane->waits_for_disk)) {
+        is_served = (is_asked && !(state_of(lane) & SERVE)) || serve_between(lane, &none, &is_empty);
+        lane_write(tracer, lane);
+    }
+    lane_clean(lane);
+    return is_served && is_empty && !LOAD(&lane->waits_for_disk);
+}
+
 /* Threads that run serve their lanes themselves, where nobody wants room meanwhile; those that made no service are in no hurry, and wait if they come now. What stood sealed until the next
  * round would be lost with a kill. Which lanes had calls; unwritten: of these those that have something still of what they had before. */
 static uint64_t make_round(body *tracer, bool is_pressed, uint64_t *unwritten) {
-    const uint64_t busy = ask_busy(tracer);
+    uint64_t busy;
+    write_full(tracer);
+    busy = ask_busy(tracer);
     *unwritten = 0;
     if (busy == 0) return 0;
     if (!is_pressed) tracer->is_pressed = is_rung(tracer, SERVE_US);
-    for (uint32_t i = 0; i < tracer->count; i++) {
-        patience none = patience_of(0);
-        bool is_empty;
-        if (!(busy >> i & 1)) continue;
-        if (state_of(&tracer->lanes[i]) & SERVE && !serve_between(&tracer->lanes[i], &none, &is_empty)) *unwritten |= UINT64_C(1) << i;
-        lane_write(tracer, &tracer->lanes[i]);
-        if (LOAD(&tracer->lanes[i].waits_for_disk)) *unwritten |= UINT64_C(1) << i;
-        lane_clean(&tracer->lanes[i]);
-    }
+    for (uint32_t i = 0; i < tracer->count; i++)
+        if (busy >> i & 1 && !finish_lane(tracer, &tracer->lanes[i])) *unwritten |= UINT64_C(1) << i;
     return busy;
 }
 
@@ -409,11 +446,9 @@ static void save_crashes(body *tracer) {
     }
     tell_unsaved(tracer, saved);
     tell_own(tracer, true);
+    if (tracer->keeper != NULL) keeper_turns(tracer); /* what it hears is drained before it is told */
     if (!is_bounded) drain(tracer, all_of(tracer));
-    if (tracer->keeper != NULL) {
-        keeper_turns(tracer);
-        keeper_tells(tracer, 0);
-    }
+    if (tracer->keeper != NULL) keeper_tells(tracer, 0);
     for (uint32_t i = 0; i < MAX_CRASHES; i++)
         if (is_saved[i]) crash_is_saved(tracer, &tracer->crashes[i]);
 }
@@ -555,7 +590,7 @@ static void sleep_idle(body *tracer) {
     most = idle_for(tracer);
     if (most > 0) is_rung(tracer, most);
     is_stirred = __atomic_exchange_n(&tracer->asleep, 0, __ATOMIC_SEQ_CST) == 0;
-    tracer->is_pressed = tracer->heard - heard > is_stirred;
+    tracer->is_pressed = (tracer->heard - heard) / RING > is_stirred;
     if (tracer->keeper != NULL) keeper_wakes(tracer->keeper);
 }
 

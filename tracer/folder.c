@@ -16,17 +16,21 @@ void dspec_folder_limit(dspec_folder *folder, uint64_t bytes, uint32_t folders) 
 
 void dspec_folder_reserve(dspec_folder *folder, size_t len) { folder->reserved = len; }
 
-/* Takes memory for the packets and the parts of batches, where that is asked for: whether there is enough. */
-static bool take_rooms(dspec_folder *folder) {
-    if (folder->reserved == 0) return true;
-    return dspec_folder_grows_(&folder->room, &folder->size, dspec_ctf_room(folder->reserved)) &&
-           (folder->most_folders == 0 || dspec_folder_grows_(&folder->copy, &folder->copy_size, 2 * folder->reserved));
+/* Takes memory for the packets and the parts of batches, where that is asked for. */
+static dspec_status take_rooms(dspec_folder *folder) {
+    dspec_status status;
+    if (folder->reserved == 0) return DSPEC_OK;
+    if (!dspec_folder_grows_(&folder->room, &folder->size, dspec_ctf_room(folder->reserved))) return DSPEC_NO_MEMORY;
+    if (folder->most_folders > 0 && !dspec_folder_grows_(&folder->copy, &folder->copy_size, 2 * folder->reserved)) return DSPEC_NO_MEMORY;
+    status = dspec_ctf_new(folder->schema, &folder->identity, 0, &folder->reserve);
+    return status == DSPEC_OK ? dspec_ctf_reserve(&folder->reserve, folder->reserved) : status;
 }
 
 /* Lets go the memory of a trace that has ended, or isn't begun. */
 static void let_go(dspec_folder *folder) {
     for (; folder->kept > 0; folder->kept--) dspec_folder_unlatches_(&dspec_folder_newest_(folder)->at, &dspec_folder_newest_(folder)->mark);
     dspec_folder_unlatches_(&folder->parent, &folder->parent_mark);
+    dspec_ctf_drop(&folder->reserve);
     free(folder->room);
     free(folder->copy);
     free(folder->text);
@@ -86,7 +90,7 @@ bool dspec_folder_begin(dspec_folder *folder, const char *path, dspec_schema *sc
     folder->identity = *identity;
     folder->identity.host = folder->identity.name = nothing; /* they are in the text, and nobody keeps them */
     status = make_text(folder, schema, identity, names);
-    if (status == DSPEC_OK && !take_rooms(folder)) status = DSPEC_NO_MEMORY;
+    if (status == DSPEC_OK) status = take_rooms(folder);
     if (status == DSPEC_OK && most_folders > 0) {
         if (most_folders < 2 || most_folders > DSPEC_FOLDER_MOST || dspec_folder_left_(folder) < 4) status = DSPEC_TOO_SMALL;
         else code = dspec_folder_finds_(folder);
@@ -126,38 +130,55 @@ static void date_packets(dspec_folder *folder, uint32_t cpu, const dspec_packet 
     }
 }
 
-/* Writes the packets of a batch until one has no room below the bound: then its CPU has no packets in this folder any more. written: how many records were. */
-static bool write_packets(dspec_folder *folder, const dspec_layout *layout, const dspec_batch *batch, uint64_t *written) {
+/* Writes the packets of the batch that a CPU has open until none is left, or one has no room below the bound. written: how many records were. */
+static bool append_packets(dspec_folder *folder, uint32_t cpu, uint64_t *written, bool *has_room) {
     dspec_packet packet = { 0, 0, 0 };
-    dspec_ctf *ctf;
-    dspec_status status;
-    *written = 0;
-    if (batch->cpu >= folder->cpus) return dspec_folder_loses_(folder, DSPEC_NO_SUCH_CPU, 0, batch->cpu, 0, dspec_folder_counts_(layout, batch));
-    ctf = &folder->ctf[batch->cpu];
-    status = dspec_ctf_batch(ctf, batch);
-    if (status != DSPEC_OK) {
-        const uint64_t records = dspec_folder_counts_(layout, batch);
-        dspec_ctf_miss(ctf, batch->drops);
-        dspec_ctf_miss(ctf, records);
-        return dspec_folder_loses_(folder, status, 0, batch->cpu, 0, records);
-    }
     for (;; *written += packet.records) {
+        dspec_status status = dspec_ctf_put(&folder->ctf[cpu], folder->room, folder->size, &packet);
         int code;
-        status = dspec_ctf_put(ctf, folder->room, folder->size, &packet);
         if (status == DSPEC_NO_PACKET) return true;
         packet.records = status == DSPEC_TOO_SMALL ? 0 : packet.records;
         if (status == DSPEC_TOO_SMALL && dspec_folder_grows_(&folder->room, &folder->size, packet.size)) continue;
         if (status == DSPEC_TOO_SMALL) status = DSPEC_NO_MEMORY;
-        if (status != DSPEC_OK) return give_up(folder, status, 0, batch->cpu, 0);
-        if (!folder->ending && packet.size > dspec_folder_left_(folder) * DSPEC_FOLDER_PACKET) {
-            dspec_ctf_drop(ctf);
-            return true;
-        }
-        date_packets(folder, batch->cpu, &packet);
-        do code = dspec_folder_appends_(folder, batch->cpu, &packet);
+        if (status != DSPEC_OK) return give_up(folder, status, 0, cpu, 0);
+        *has_room = folder->ending || packet.size <= dspec_folder_left_(folder) * DSPEC_FOLDER_PACKET;
+        if (!*has_room) return true;
+        date_packets(folder, cpu, &packet);
+        do code = dspec_folder_appends_(folder, cpu, &packet);
         while (dspec_folder_gives_room_(folder, code));
-        if (code != 0) return give_up(folder, DSPEC_OK, code, batch->cpu, packet.file);
+        if (code != 0) return give_up(folder, DSPEC_OK, code, cpu, packet.file);
     }
+}
+
+/* Opens a batch, and writes its packets. */
+static bool write_opened(dspec_folder *folder, const dspec_layout *layout, const dspec_batch *batch, uint64_t *written, bool *has_room) {
+    dspec_ctf *const ctf = &folder->ctf[batch->cpu];
+    const dspec_status status = dspec_ctf_batch(ctf, batch);
+    uint64_t records;
+    if (status == DSPEC_OK) return append_packets(folder, batch->cpu, written, has_room);
+    records = dspec_folder_counts_(layout, batch);
+    dspec_ctf_miss(ctf, batch->drops);
+    dspec_ctf_miss(ctf, records);
+    return dspec_folder_loses_(folder, status, 0, batch->cpu, 0, records);
+}
+
+/* A CPU's files have the reserve while a batch is written, since one is written at a time: whether it went from one to the other. */
+static bool swap_reserve(dspec_folder *folder, dspec_ctf *ctf) { return folder->reserve.held && dspec_ctf_swap_rooms(&folder->reserve, ctf) == DSPEC_OK; }
+
+/* Writes the packets of a batch until one has no room below the bound: then its CPU has no packets in this folder any more. written: how many records were. */
+static bool write_packets(dspec_folder *folder, const dspec_layout *layout, const dspec_batch *batch, uint64_t *written) {
+    dspec_ctf *ctf;
+    uint64_t rest;
+    bool has_room = true, is_lent, is_whole;
+    *written = 0;
+    if (batch->cpu >= folder->cpus) return dspec_folder_loses_(folder, DSPEC_NO_SUCH_CPU, 0, batch->cpu, 0, dspec_folder_counts_(layout, batch));
+    ctf = &folder->ctf[batch->cpu];
+    is_lent = swap_reserve(folder, ctf);
+    is_whole = write_opened(folder, layout, batch, written, &has_room);
+    if (!has_room) dspec_ctf_lose(ctf, &rest); /* the reserve comes back without a batch alone; the next folder gets the rest */
+    if (is_lent) swap_reserve(folder, ctf);
+    if (!has_room) dspec_ctf_drop(ctf);
+    return is_whole;
 }
 
 /* Tells what isn't told yet of what CPUs missed, and closes the folder that is being written. */

@@ -327,7 +327,6 @@ bool dspec_folder_enters_(dspec_folder *folder, dspec_status *status, int *code)
     for (uint32_t cpu = 0; *status == DSPEC_OK && cpu < folder->cpus; cpu++) {
         *status = dspec_ctf_new(folder->schema, &identity, cpu, &folder->ctf[cpu]);
         if (*status == DSPEC_OK) dspec_ctf_miss(&folder->ctf[cpu], folder->untold[cpu]);
-        if (*status == DSPEC_OK && folder->reserved > 0) *status = dspec_ctf_reserve(&folder->ctf[cpu], folder->reserved);
     }
     if (*status == DSPEC_OK) *code = write_metadata(folder);
     if (*status == DSPEC_OK && *code == 0) *code = open_first_files(folder);

@@ -11,17 +11,29 @@ static void words_of_path(const open_path *path, uint64_t begun, uint32_t why, u
     words[5] = path->key_state != NO_KEY ? path->key[1] : 0;
 }
 
-/* Keeps one part of a path. count: its records. A kill in its middle finds that it was made. */
-static dspec_status keep_part(struct lane *lane, uint32_t place, uint64_t id, room has, uint32_t *count) {
+/* Keeps one part of a path, or with waits finds that it has no room. count: its records. A kill in its middle finds that it was made. */
+static dspec_status try_part(struct lane *lane, uint32_t place, uint64_t id, bool waits, uint32_t *count) {
     dspec_status status;
-    if (has == EMPTY_ROOM) lane_empty(lane->tracer, lane);
     STORE(&lane->front.commits, 1);
     __atomic_signal_fence(__ATOMIC_SEQ_CST);
-    status = dspec_paths_keep_part(&lane->paths, &lane->front.cpu, place, id, has == WAITS_FOR_ROOM, count);
+    status = dspec_paths_keep_part(&lane->paths, &lane->front.cpu, place, id, waits, count);
     __atomic_signal_fence(__ATOMIC_SEQ_CST);
     if (LIKELY(status == DSPEC_OK) || status == DSPEC_GOES_ON) STORE(&lane->front.answered, lane->front.answered + *count);
     STORE(&lane->front.commits, 0);
     return status;
+}
+
+/* The same of one that found no room: in the other buffer, where that is there. */
+RARELY static dspec_status keep_in_other(struct lane *lane, uint32_t place, uint64_t id, room has, uint32_t *count) {
+    const dspec_status status = lane_makes_room(lane, A_PATH) ? try_part(lane, place, id, true, count) : DSPEC_BUSY;
+    return status == DSPEC_BUSY && has == ANY_ROOM ? try_part(lane, place, id, false, count) : status;
+}
+
+static dspec_status keep_part(struct lane *lane, uint32_t place, uint64_t id, room has, uint32_t *count) {
+    dspec_status status;
+    if (has == EMPTY_ROOM) lane_empty(lane->tracer, lane);
+    status = try_part(lane, place, id, has != EMPTY_ROOM, count);
+    return LIKELY(status != DSPEC_BUSY) ? status : keep_in_other(lane, place, id, has, count);
 }
 
 /* ---- The event of a path. ---- */
@@ -109,10 +121,12 @@ static void count_lost(struct lane *lane, const open_path *path, uint64_t thrown
     STORE(&lane->cut_records, lane->cut_records + thrown - path->has_event);
 }
 
-/* Where the lane owes an event already, one of a path that may come after its records has no room either: that path waits, or is lost as a whole. */
-RARELY static dspec_status without_room(struct lane *lane, uint32_t place, uint64_t id, room has) {
+/* Where the lane owes an event already, and that has no room in the other buffer either, there is none for a path whose event may come after its records: that path waits, or is lost as a whole. */
+RARELY static dspec_status pay_before_path(struct lane *lane, uint32_t place, uint64_t id, room has) {
     dspec_report before, after;
     if (has == EMPTY_ROOM) return DSPEC_OK;
+    if (lane->owes == OWES_EVENT) lane_makes_room(lane, A_PATH);
+    if (lane->owes == OWES_NOTHING) return DSPEC_OK;
     if (has == WAITS_FOR_ROOM) return DSPEC_BUSY;
     dspec_cpu_report(&lane->front.cpu, &before);
     dspec_paths_lose(&lane->paths, &lane->front.cpu, place, id);
@@ -155,7 +169,7 @@ dspec_status path_commit(struct lane *lane, uint32_t place, uint64_t id, uint32_
     dspec_status status = DSPEC_OK;
     if (dspec_paths_open_of(&lane->paths, place, 0, &path) != DSPEC_OK || path.newest != id) return DSPEC_VOID;
     if (!opened->is_prepared) prepare(lane, opened, &path, why);
-    if (lane->owes != OWES_NOTHING && !has_claim && (path.older != 0 || !opened->has_event)) status = without_room(lane, place, id, has);
+    if (lane->owes != OWES_NOTHING && !has_claim && (path.older != 0 || !opened->has_event)) status = pay_before_path(lane, place, id, has);
     if (status == DSPEC_OK) status = keep_parts(lane, opened, place, id, has);
     opened->waits = status == DSPEC_BUSY;
     if (opened->waits) {

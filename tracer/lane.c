@@ -7,7 +7,7 @@
 
 /* So many paths of a thread that hands them on are begun on a lane of all. */
 enum { HANDS_ON = 64 };
-/* A lane that was one thread's alone for so many paths in a row is kept by it: what they spare is what it costs another thread to take it over. A test has fewer. */
+/* A lane that one thread had alone for so many paths or records in a row is kept by it: what they spare is what it costs another thread to take it over. A test has fewer. */
 #ifndef DSPEC_KEPT_AFTER
 #define DSPEC_KEPT_AFTER 64
 #endif
@@ -118,36 +118,39 @@ INTO_CALLER bool claims(const body *tracer, dspec_tracer_seat *seat, struct lane
 static uint8_t *free_flag(struct lane *lane) {
     for (size_t number = 1; number <= FLAGS; number++) {
         uint8_t is = FREE_FLAG;
-        if (__atomic_compare_exchange_n(&lane->uses[number], &is, RESTS, false, __ATOMIC_SEQ_CST, __ATOMIC_SEQ_CST)) return &lane->uses[number];
+        if (__atomic_compare_exchange_n(&lane->front.uses[number], &is, RESTS, false, __ATOMIC_SEQ_CST, __ATOMIC_SEQ_CST)) return &lane->front.uses[number];
     }
     return NULL;
 }
 
 static void flag_free(uint8_t *flag) { __atomic_exchange_n(flag, FREE_FLAG, __ATOMIC_SEQ_CST); }
 
-/* Whether a thread had a lane alone for so many paths in a row. That one isn't asked again for as many. */
+/* Whether a thread had a lane alone for so many paths or records in a row. That one isn't asked again for as many. Threads that make records there by turns may count at once. */
 static bool is_due(struct lane *lane) {
-    if (lane->had_by != dspec_tracer_token_6) lane->in_a_row = 0;
-    lane->had_by = dspec_tracer_token_6;
-    if (++lane->in_a_row < DSPEC_KEPT_AFTER) return false;
-    lane->in_a_row = 0;
-    return true;
+    const uint32_t before = LOAD(&lane->had_by) == dspec_tracer_token_7 ? LOAD(&lane->in_a_row) : 0;
+    const bool is = before + 1 >= DSPEC_KEPT_AFTER;
+    STORE(&lane->had_by, dspec_tracer_token_7);
+    STORE(&lane->in_a_row, is ? 0 : before + 1);
+    return is;
 }
 
-bool lane_keeps(dspec_tracer_seat *seat, struct lane *lane) {
-    uint32_t state = AT_REST;
+bool lane_keeps(dspec_tracer_seat *seat, struct lane *lane, uint32_t state) {
     uint8_t *flag;
     if (LIKELY(!is_due(lane)) || LOAD(&lane->tracer->locked) || (flag = free_flag(lane)) == NULL) return false;
-    const uint32_t kept = AT_REST + (uint32_t)(flag - lane->uses) * FLAG;
-    if (state_becomes(lane, &state, kept)) seat->kept = (uint16_t)kept;
-    else flag_free(flag);
+    const uint32_t kept = AT_REST + (uint32_t)(flag - lane->front.uses) * FLAG;
+    if (state_becomes(lane, &state, kept)) {
+        STORE(&lane->handed, 0);
+        seat->kept = (uint16_t)kept;
+    } else {
+        flag_free(flag);
+    }
     return seat->kept != 0;
 }
 
 /* The thread keeps a lane no longer, and so many are counted off it: whether it was kept until now. Where another thread is taking it, that comes to an end first: it may leave it. */
 static bool lane_unkeep(dspec_tracer_seat *seat, uint32_t users) {
     struct lane *lane = lane_of(seat->last);
-    uint8_t *flag = flag_of(lane, seat->kept);
+    uint8_t *flag = dspec_tracer_flag_(&lane->front, seat->kept);
     const uint32_t kept = seat->kept & KEPT;
     uint32_t state = state_of(lane);
     patience left = patience_of(ENTER_US);
@@ -166,11 +169,11 @@ static bool lane_unkeep(dspec_tracer_seat *seat, uint32_t users) {
     return false;
 }
 
-/* Makes a lane that another thread keeps and doesn't use the thread's own, for a path: whether it is. */
+/* Makes a lane that another thread keeps and doesn't use the thread's own, as for a path: whether it is. */
 static bool takes_over(body *tracer, dspec_tracer_seat *seat, struct lane *lane) {
     uint32_t state = state_of(lane);
     const uint32_t kept = state & KEPT;
-    const uint8_t *flag = &lane->uses[kept / FLAG];
+    const uint8_t *flag = &lane->front.uses[kept / FLAG];
     if (kept == 0 || state / USER != AT_REST / USER || state & (HELD | GONE | WANTED) || LOAD(flag) == IN_USE) return false;
     if (!state_becomes(lane, &state, (as_own(tracer, state) - kept) | HELD)) return false;
     order(tracer);
@@ -185,17 +188,22 @@ static bool takes_over(body *tracer, dspec_tracer_seat *seat, struct lane *lane)
     return true;
 }
 
+/* Any lane that another thread keeps and doesn't use. */
+static struct lane *take_any_over(body *tracer, dspec_tracer_seat *seat) {
+    for (uint32_t i = 0; i < tracer->count; i++) {
+        struct lane *lane = lane_after(tracer, seat, i);
+        if (takes_over(tracer, seat, lane)) return lane;
+    }
+    return NULL;
+}
+
 /* Of any lane, the one that the thread had last before others, and those that are free before those that are kept; NULL: somebody is on each. */
 static struct lane *claim(body *tracer, dspec_tracer_seat *seat, uint32_t users) {
     for (uint32_t i = 0; i < tracer->count; i++) {
         struct lane *lane = lane_after(tracer, seat, i);
         if (claims(tracer, seat, lane, users)) return lane;
     }
-    for (uint32_t i = 0; i < tracer->count; i++) {
-        struct lane *lane = lane_after(tracer, seat, i);
-        if (takes_over(tracer, seat, lane)) return lane;
-    }
-    return NULL;
+    return take_any_over(tracer, seat);
 }
 
 void lanes_give_up(dspec_tracer_seat *seat) {
@@ -205,9 +213,12 @@ void lanes_give_up(dspec_tracer_seat *seat) {
     else if (own != NULL) __atomic_fetch_sub(&own->front.state, USER, __ATOMIC_SEQ_CST);
 }
 
+/* Uses the lane again that a thread keeps, also where the consumer has something to do there. */
+static bool is_kept_still(dspec_tracer_seat *seat) { return lane_is_kept(seat, lane_of(seat->last), HELD | GONE | SERVE | IDLE | WANTED); }
+
 /* Whether the lane that a thread keeps is its own again, for a path: it may be taken, wanted or shared. */
-RARELY static bool is_kept_still(dspec_tracer_seat *seat) {
-    if (lane_is_kept(seat, lane_of(seat->last), HELD | GONE | SERVE | IDLE | WANTED) || lane_unkeep(seat, 0)) seat_owns(seat, seat->last);
+RARELY static bool is_own_again(dspec_tracer_seat *seat) {
+    if (is_kept_still(seat) || lane_unkeep(seat, 0)) seat_owns(seat, seat->last);
     return seat->own != NULL;
 }
 
@@ -239,7 +250,7 @@ RARELY static void take_back(dspec_tracer_seat *seat, struct lane *lane) {
 
 struct lane *lane_for_path(body *tracer, dspec_tracer_seat *seat) {
     struct lane *lane = lane_of(seat->own);
-    if (lane == NULL && seat->kept != 0 && is_kept_still(seat)) return lane_of(seat->own);
+    if (lane == NULL && seat->kept != 0 && is_own_again(seat)) return lane_of(seat->own);
     if (lane == NULL && LIKELY(dspec_here.hands_on == 0) && LIKELY(claims(tracer, seat, lane_of(seat->last), 2))) return lane_of(seat->last);
     if (lane != NULL && !LIKELY(LOAD(&lane->handed) == 0)) {
         take_back(seat, lane);
@@ -250,17 +261,29 @@ struct lane *lane_for_path(body *tracer, dspec_tracer_seat *seat) {
     return lane_shared(tracer, lane == NULL || !has_room(tracer, lane) ? least(tracer)->number : lane->number);
 }
 
-struct lane *lane_for_record(body *tracer, dspec_tracer_seat *seat) {
-    struct lane *lane = lane_of(seat->own);
-    if (lane != NULL || (tracer->by_thread && (lane = claim(tracer, seat, 1)) != NULL)) return lane;
-    lanes_give_up(seat); /* one that is kept is entered by its lock from here, as any other */
+/* The lane that a thread keeps, or one that nobody is on, before one that another thread keeps and doesn't use. */
+static struct lane *quiet_lane(body *tracer, dspec_tracer_seat *seat) {
+    if (seat->kept != 0 && is_kept_still(seat)) {
+        seat_owns(seat, seat->last);
+        return lane_of(seat->last);
+    }
+    lanes_give_up(seat); /* one that another thread wants */
     for (uint32_t i = 0; i < tracer->count; i++) {
-        uint32_t state;
-        lane = lane_after(tracer, seat, i);
-        state = LOAD(&lane->front.state);
+        struct lane *lane = lane_after(tracer, seat, i);
+        const uint32_t state = LOAD(&lane->front.state);
         if (state < USER && !(state & (HELD | WANTED))) return seat->last = &lane->front, lane;
     }
-    return lane_of(seat->last);
+    return take_any_over(tracer, seat);
+}
+
+struct lane *lane_for_record(body *tracer, dspec_tracer_seat *seat, bool *as_path) {
+    struct lane *lane = lane_of(seat->own);
+    *as_path = false;
+    if (lane != NULL || (tracer->by_thread && (lane = claim(tracer, seat, 1)) != NULL)) return lane;
+    lane = quiet_lane(tracer, seat);
+    *as_path = seat->own != NULL;
+    seat->open += *as_path;
+    return lane != NULL ? lane : lane_of(seat->last);
 }
 
 /* ---- The consumer. ---- */

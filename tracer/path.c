@@ -14,10 +14,11 @@ static void is_over(dspec_path *path) {
     path->token = 0;
 }
 
+/* The consumer asks still while something is left that the lane had: a service switches nothing as long as a full buffer is out, and may put a path's event into the next one. */
 RARELY static void serve(struct lane *lane) {
     bool is_empty;
-    state_clear(lane, SERVE);
     lane_serve(lane, &is_empty);
+    if (is_empty) state_clear(lane, SERVE);
 }
 
 /* What the consumer asked for, where this thread comes by: so it never waits for the consumer. */
@@ -48,19 +49,23 @@ static uint32_t next_number(struct lane *lane) {
     return lane->opened;
 }
 
-/* Opens a path on a lane, which the caller is in: whether there is a slot. own: whether it is the thread's own. */
-INTO_CALLER bool open_on(struct lane *lane, dspec_path *path, bool own, uint64_t now) {
-    const uint32_t token = dspec_tracer_token_6;
+/* Opens a path's speculation on a lane, which the caller is in: whether there is a slot. */
+INTO_CALLER bool open_on(struct lane *lane, dspec_path *path, uint64_t now) {
     uint32_t place;
     path->mark = (uint64_t)next_number(lane) << 32;
-    if (dspec_paths_begin(&lane->paths, &lane->front.cpu, (uint32_t)(path->mark >> 32), token, now, &place, &path->id) != DSPEC_OK) return false;
-    note(lane, place, path, token, own);
+    if (!LIKELY(dspec_paths_begin(&lane->paths, &lane->front.cpu, (uint32_t)(path->mark >> 32), dspec_tracer_token_7, now, &place, &path->id) == DSPEC_OK)) return false;
     path->place = (uint16_t)place;
-    path->lane = &lane->front;
     path->begun = now;
+    return true;
+}
+
+/* What others may look at of a path that was opened, and what it knows of itself. own: whether it is the thread's own. Its first record comes before that: the record's exchange waits for each store. */
+INTO_CALLER void show_on(struct lane *lane, dspec_path *path, bool own) {
+    const uint32_t token = dspec_tracer_token_7;
+    note(lane, path->place, path, token, own);
+    path->lane = &lane->front;
     path->own = own;
     path->token = own ? token : 0;
-    return true;
 }
 
 RARELY dspec_status dspec_tracer_put_long(dspec_cpu *cpu, uint64_t id, uint64_t claim, uint64_t now, uint64_t first, const uint64_t *words, size_t n) {
@@ -73,7 +78,7 @@ RARELY dspec_status dspec_tracer_put_long(dspec_cpu *cpu, uint64_t id, uint64_t 
 
 /* A record of a path, into the speculation that it has on its lane, which the caller is in. */
 INTO_CALLER dspec_status put_once(struct lane *lane, const dspec_path *path, uint64_t claim, const uint64_t *words, size_t n, uint64_t now) {
-    STORE(&dspec_tracer_recent_6, path->mark);
+    STORE(&dspec_tracer_recent_7, path->mark);
     return dspec_tracer_put_in_(&lane->front.cpu, path->id, claim, now, words[0] | path->mark, words, n);
 }
 
@@ -141,7 +146,8 @@ static void note_first(struct lane *lane, const dspec_path *path, const dspec_ev
 
 RARELY static dspec_status begin_keeping_last(struct lane *lane, dspec_path *path, bool own, const dspec_event *event, const uint64_t *words, size_t n) {
     const uint64_t now = dspec_tracer_stamp_(&lane->front.clock);
-    if (is_full(lane) || !open_on(lane, path, own, now)) return DSPEC_UNAVAILABLE;
+    if (is_full(lane) || !open_on(lane, path, now)) return DSPEC_UNAVAILABLE;
+    show_on(lane, path, own);
     note_first(lane, path, event, words, n);
     return put_on(lane, path, event, words, n, now);
 }
@@ -150,7 +156,10 @@ RARELY static dspec_status begin_keeping_last(struct lane *lane, dspec_path *pat
 INTO_CALLER dspec_status begin_in(struct lane *lane, dspec_path *path, bool own, const dspec_event *event, uint64_t claim, const uint64_t *words, size_t n) {
     if (!LIKELY(!lane->tracer->options.keep_last)) return begin_keeping_last(lane, path, own, event, words, n);
     const uint64_t now = dspec_tracer_stamp_(&lane->front.clock);
-    return LIKELY(open_on(lane, path, own, now)) ? put_once(lane, path, claim, words, n, now) : DSPEC_UNAVAILABLE;
+    if (!LIKELY(open_on(lane, path, now))) return DSPEC_UNAVAILABLE;
+    const dspec_status status = put_once(lane, path, claim, words, n, now);
+    show_on(lane, path, own);
+    return status;
 }
 
 /* The same from outside the lane: whether it began there. status: of the record, or why it didn't. */
@@ -212,7 +221,7 @@ static dspec_status begin(body *tracer, dspec_tracer_seat *seat, dspec_path *pat
     if (LIKELY(lane != NULL) && LIKELY(begin_on(lane, seat, path, event, words, n, &status))) return status;
     if (begin_elsewhere(tracer, seat, path, event, words, n, &status)) return status;
     is_over(path);
-    STORE(&dspec_tracer_recent_6, REFUSED_PATH);
+    STORE(&dspec_tracer_recent_7, REFUSED_PATH);
     if (!LOAD(&tracer->up)) return DSPEC_STOPPED;
     ADD(&tracer->no_slot, 1);
     ADD(&tracer->refused_records, 1);
@@ -222,8 +231,8 @@ static dspec_status begin(body *tracer, dspec_tracer_seat *seat, dspec_path *pat
 
 /* A path is this thread's from now on: whether it is still open. The caller is in its lane. */
 static bool adopt(struct lane *lane, const dspec_path *path) {
-    if (dspec_paths_adopt(&lane->paths, path->place, path->id, dspec_tracer_token_6) != DSPEC_OK) return false;
-    STORE(&lane->open[path->place].token, dspec_tracer_token_6);
+    if (dspec_paths_adopt(&lane->paths, path->place, path->id, dspec_tracer_token_7) != DSPEC_OK) return false;
+    STORE(&lane->open[path->place].token, dspec_tracer_token_7);
     return true;
 }
 
@@ -241,7 +250,7 @@ static dspec_status go_on(dspec_tracer_seat *seat, dspec_path *path, const dspec
     const way in = lane_enter(seat, lane);
     if (in == NOT_IN) return DSPEC_STOPPED;
     if (adopt(lane, path)) {
-        path->token = path->own && path->lane == seat->own ? dspec_tracer_token_6 : 0;
+        path->token = path->own && path->lane == seat->own ? dspec_tracer_token_7 : 0;
         status = put_on(lane, path, event, words, n, dspec_tracer_stamp_(&lane->front.clock));
     } else if (!is_ended(lane, path->mark)) {
         is_over(path);
@@ -259,7 +268,7 @@ static body *body_of_path(const dspec_path *path) {
 /* A further record of a path that got no slot is counted; one of a path that began while the tracer was off isn't. */
 RARELY static dspec_status refused(const dspec_path *path) {
     body *tracer = path->over == 1 ? body_of(path->tracer) : NULL;
-    STORE(&dspec_tracer_recent_6, REFUSED_PATH);
+    STORE(&dspec_tracer_recent_7, REFUSED_PATH);
     if (tracer != NULL && LOAD(&tracer->up)) {
         ADD(&tracer->refused_records, 1);
         consumer_stirs(tracer);
@@ -279,9 +288,22 @@ static dspec_status put_slowly(dspec_path *path, const dspec_event *event, const
     return status;
 }
 
-dspec_status dspec_path_put_slowly_(dspec_path *path, const dspec_event *event, const uint64_t *words, size_t n) {
+/* A path's record that isn't made in its caller, as the first one. */
+INTO_CALLER dspec_status put_first(dspec_path *path, const dspec_event *event, const uint64_t *words, size_t n) {
     const dspec_status status = LIKELY(path->tracer != NULL && !path->over) ? begin_quickly(path, event, words, n) : DSPEC_UNAVAILABLE;
     return LIKELY(status != DSPEC_UNAVAILABLE) ? status : put_slowly(path, event, words, n);
+}
+
+dspec_status dspec_path_put_slowly_(dspec_path *path, const dspec_event *event, const uint64_t *words, size_t n) { return put_first(path, event, words, n); }
+
+dspec_status dspec_path_put_slowly_2_(dspec_path *path, const dspec_event *event, uint64_t w0, uint64_t w1) {
+    const uint64_t words[] = { w0, w1 };
+    return put_first(path, event, words, 2);
+}
+
+dspec_status dspec_path_put_slowly_3_(dspec_path *path, const dspec_event *event, uint64_t w0, uint64_t w1, uint64_t w2) {
+    const uint64_t words[] = { w0, w1, w2 };
+    return put_first(path, event, words, 3);
 }
 
 INTO_CALLER dspec_status put(dspec_path *path, const dspec_event *event, const uint64_t *words, size_t n) {
@@ -303,10 +325,49 @@ dspec_status dspec_path_put_3(dspec_path *path, const dspec_event *event, uint64
     return put(path, event, words, 3);
 }
 
-RARELY void dspec_tracer_missed(dspec_tracer *tracer, const dspec_event *event, dspec_status status) {
-    body *run = tracer->body;
-    if (status == DSPEC_DROPPED) wants_room(run);
-    if (status == DSPEC_BAD_RECORD && dspec_tracer_claim_(event, run->slot) <= DSPEC_TRACER_OFF_) count_missing(run, event);
+/* A record that is in no path, and wasn't made. */
+RARELY static void missed(body *tracer, const dspec_event *event, dspec_status status) {
+    if (status == DSPEC_DROPPED) wants_room(tracer);
+    if (status == DSPEC_BAD_RECORD && dspec_tracer_claim_(event, tracer->slot) <= DSPEC_TRACER_OFF_) count_missing(tracer, event);
+}
+
+RARELY dspec_status dspec_tracer_turn(dspec_tracer *tracer, const dspec_event *event, dspec_status status) {
+    dspec_tracer_seat *seat = dspec_tracer_seat_of_(tracer);
+    struct lane *lane = lane_of(seat->last);
+    body *run = lane->tracer;
+    const bool is_again = status == DSPEC_DROPPED && lane_makes_room(lane, A_RECORD);
+    dspec_tracer_leave_kept_(&lane->front, seat->kept);
+    __atomic_signal_fence(__ATOMIC_SEQ_CST);
+    STORE(&seat->plain, seat->run);
+    if (is_again) return DSPEC_TRACER_AGAIN_;
+    missed(run, event, status);
+    return status;
+}
+
+/* A record that is in no path, on a lane that the caller has: in the other buffer, where it finds the first one full. */
+INTO_CALLER dspec_status fill(struct lane *lane, const dspec_event *event, const uint64_t *words, size_t n) {
+    const uint64_t claim = dspec_tracer_claim_(event, lane->front.slot);
+    const dspec_status status = dspec_tracer_fill_(&lane->front, claim, dspec_tracer_stamp_(&lane->front.clock), words, n);
+    if (LIKELY(status != DSPEC_DROPPED) || !lane_makes_room(lane, A_RECORD)) return status;
+    return dspec_tracer_fill_(&lane->front, claim, dspec_tracer_stamp_(&lane->front.clock), words, n);
+}
+
+/* A record that is in no path, on the lane that its thread had last and doesn't keep, where nobody is on that: whether it was made. A thread that hands its paths on keeps none. */
+INTO_CALLER bool record_by_lock(dspec_tracer *tracer, const dspec_event *event, const uint64_t *words, size_t n, dspec_status *status) {
+    dspec_tracer_seat *seat = dspec_tracer_seat_of_(tracer);
+    uint32_t state = 0;
+    if (seat->kept != 0 || !LIKELY(seat->plain == LOAD(&tracer->run)) || !LIKELY(!seat->busy)) return false;
+    seat_sits(seat);
+    struct lane *lane = lane_of(seat->last);
+    const bool is_in = LIKELY(seat->own == NULL) && LIKELY(seat->kept == 0) && LIKELY(state_becomes(lane, &state, HELD));
+    if (is_in) {
+        *status = fill(lane, event, words, n);
+        lane_leave_locked(lane);
+        if (LIKELY(dspec_here.hands_on == 0) && LIKELY(!lane->tracer->by_thread)) lane_keeps(seat, lane, 0);
+    }
+    seat_leave(seat);
+    if (is_in && !LIKELY(*status == DSPEC_OK)) missed(lane->tracer, event, *status);
+    return is_in;
 }
 
 /* A record that is in no path, on its thread's own lane, where nobody is in its way: whether it was made. */
@@ -316,7 +377,7 @@ INTO_CALLER bool record_on_own(dspec_tracer *tracer, const dspec_event *event, c
     if (!LIKELY(seat->run == LOAD(&tracer->run) && seat_enter(seat))) return false;
     struct lane *lane = lane_of(seat->own);
     if (LIKELY(lane != NULL) && dspec_tracer_enter_(&lane->front)) {
-        *status = dspec_tracer_fill_(&lane->front, dspec_tracer_claim_(event, lane->front.slot), dspec_tracer_stamp_(&lane->front.clock), words, n);
+        *status = fill(lane, event, words, n);
         serve_if_asked(lane);
         dspec_tracer_leave_(&lane->front);
         if (!LIKELY(*status != DSPEC_DROPPED)) wants_room(lane->tracer);
@@ -331,30 +392,33 @@ static dspec_status record_slowly(dspec_tracer *tracer, const dspec_event *event
     body *run = body_of(tracer);
     dspec_tracer_seat *seat;
     dspec_status status;
+    bool as_path;
     if (run == NULL || LOAD(&tracer->run) == 0) return DSPEC_UNAVAILABLE;
     if (!LIKELY(dspec_tracer_claim_(event, run->slot) > DSPEC_TRACER_OFF_)) return not_enabled(run, event);
     if ((status = seat_take(run, &seat)) != DSPEC_OK) return status;
-    struct lane *lane = lane_for_record(run, seat);
+    struct lane *lane = lane_for_record(run, seat, &as_path);
     status = DSPEC_STOPPED;
     const way in = lane_enter(seat, lane);
     if (in != NOT_IN) {
-        status = dspec_tracer_fill_(&lane->front, dspec_tracer_claim_(event, run->slot), stamp_of(run), words, n);
+        status = fill(lane, event, words, n);
         serve_if_asked(lane);
         lane_leave(lane, in);
         if (status == DSPEC_DROPPED) wants_room(run);
     }
+    if (as_path) lane_path_off(seat, lane, true);
     seat_leave(seat);
     return status;
 }
 
 dspec_status dspec_tracer_put_slowly_(dspec_tracer *tracer, const dspec_event *event, const uint64_t *words, size_t n) {
     dspec_status status;
-    return LIKELY(dspec_event_goes_(event)) && record_on_own(tracer, event, words, n, &status) ? status : record_slowly(tracer, event, words, n);
+    if (LIKELY(dspec_event_goes_(event)) && (record_on_own(tracer, event, words, n, &status) || record_by_lock(tracer, event, words, n, &status))) return status;
+    return record_slowly(tracer, event, words, n);
 }
 
 INTO_CALLER dspec_status record(dspec_tracer *tracer, const dspec_event *event, const uint64_t *words, size_t n) {
     dspec_status status;
-    if (LIKELY(dspec_event_goes_(event)) && dspec_tracer_try_(tracer, event, words, n, &status)) return status;
+    if (LIKELY(dspec_event_goes_(event)) && (record_by_lock(tracer, event, words, n, &status) || dspec_tracer_try_(tracer, event, words, n, &status))) return status;
     return dspec_tracer_put_slowly_(tracer, event, words, n);
 }
 
@@ -527,10 +591,17 @@ static dspec_status end_slowly(dspec_path *path, ending as, uint32_t why) {
     return status;
 }
 
+/* Throws a path away whose key nobody wants: whether it did. */
+INTO_CALLER bool throws_quickly(struct lane *lane, const dspec_path *path, const open_path *opened) {
+    return LIKELY(opened->key_state != IS_WANTED) && LIKELY(throw(lane, path->place, path->id) == DSPEC_OK);
+}
+
 /* The end of a path in the call on its thread's own lane: whether it came to one. */
 INTO_CALLER bool end_in(struct lane *lane, dspec_path *path, ending as, uint32_t why, dspec_status *status) {
     open_path *const opened = place_at(lane, path->place);
-    *status = decide(lane, path, as, lane->tracer->options.keep_ms > 0, why);
+    *status = DSPEC_OK;
+    if (as == DROPS && !LIKELY(throws_quickly(lane, path, opened))) return false;
+    if (as != DROPS) *status = decide(lane, path, as, lane->tracer->options.keep_ms > 0, why);
     if (!LIKELY(*status == DSPEC_OK) && is_lost(*status) && *status != DSPEC_LOST) return false;
     is_over(path);
     serve_if_asked(lane);
@@ -618,8 +689,8 @@ static bool take_over(dspec_path *path, const uint64_t *key) {
     const way in = lane_enter(seat, lane);
     if (in != NOT_IN) {
         is_open = adopt(lane, path);
-        if (is_open) path->token = path->own && path->lane == seat->own ? dspec_tracer_token_6 : 0;
-        if (is_open) STORE(&dspec_tracer_recent_6, path->mark);
+        if (is_open) path->token = path->own && path->lane == seat->own ? dspec_tracer_token_7 : 0;
+        if (is_open) STORE(&dspec_tracer_recent_7, path->mark);
         if (is_open && key != NULL) set_key(lane, &lane->open[path->place], key);
         if (!is_open && !is_ended(lane, path->mark)) is_over(path);
         lane_leave(lane, in);
@@ -635,10 +706,15 @@ bool dspec_path_key(dspec_path *path, uint64_t high, uint64_t low) {
     return take_over(path, key);
 }
 
-bool dspec_path_drop(dspec_path *path) {
-    if (path->lane != NULL) return ends(path, DROPS, 0) == DSPEC_OK;
+/* A path that never began is over. */
+RARELY static bool drop_none(dspec_path *path) {
     is_over(path);
     return true;
+}
+
+bool dspec_path_drop(dspec_path *path) {
+    if (!LIKELY(dspec_path_is_here_(path)) && path->lane == NULL) return drop_none(path);
+    return ends(path, DROPS, 0) == DSPEC_OK;
 }
 
 bool dspec_tracer_keep_key(dspec_tracer *tracer, uint64_t high, uint64_t low) {

@@ -78,11 +78,23 @@ static void send_raw(struct reading *reading, uint32_t what, uint32_t place, uin
     send_bytes(reading, &told, reading->buffers[buffer & 1], reading->size);
 }
 
-/* What was switched out, so many records: whether there was something. */
-static bool send_switched(struct reading *reading, uint32_t what, uint32_t place, uint64_t count, bool may_differ) {
+/* How many records the batch has that was switched out last, and wasn't given back: as many as were there before the service, where that hasn't noted it. */
+static uint64_t switched_records(const struct lane *lane) { return lane->given == lane->switched ? lane->standing : lane->sealed; }
+
+/* That batch. What it dropped and was offered again after it, isn't missed. */
+static void send_last(struct reading *reading, uint32_t what, const dspec_batch *last) {
+    const struct lane *lane = reading->lane;
+    const uint32_t again = lane->again[lane->given % 2];
+    dspec_batch batch = *last;
+    batch.drops -= again < batch.drops ? again : batch.drops;
+    if (batch.len > 0 || batch.drops > 0) send_whole(reading, what, 0, switched_records(lane), false, &batch);
+}
+
+/* Where nobody has taken it: whether there is one. */
+static bool send_switched(struct reading *reading) {
     dspec_batch batch;
     if (dspec_take(&reading->lane->consumer, 0, &batch) != DSPEC_OK) return false;
-    if (batch.len > 0 || batch.drops > 0) send_whole(reading, what, place, count, may_differ, &batch);
+    send_last(reading, FOUND_KEPT, &batch);
     dspec_give_back(&reading->lane->consumer, 0);
     return true;
 }
@@ -91,38 +103,47 @@ static bool send_switched(struct reading *reading, uint32_t what, uint32_t place
 static bool send_by_switch(struct reading *reading, uint32_t what, uint32_t place, uint64_t count, bool may_differ) {
     bool sealed = false;
     uint32_t settled;
+    dspec_batch batch;
     dspec_ask(&reading->lane->consumer, 0);
     dspec_service(&reading->lane->front.cpu, &sealed, &settled);
-    return send_switched(reading, what, place, count, may_differ) && sealed;
+    if (dspec_take(&reading->lane->consumer, 0, &batch) != DSPEC_OK) return false;
+    if (batch.len > 0 || batch.drops > 0) send_whole(reading, what, place, count, may_differ, &batch);
+    dspec_give_back(&reading->lane->consumer, 0);
+    return sealed;
 }
-
-/* How many records the batch has that was switched out last, and wasn't given back: as many as were there before the service, where that hasn't noted it. */
-static uint64_t switched_records(const struct lane *lane) { return lane->given == lane->switched ? lane->standing : lane->sealed; }
 
 static bool is_whole(const dspec_batch *batch) { return batch->bytes != nothing_out.bytes && batch->len != nothing_out.len && batch->drops != nothing_out.drops; }
 
 /* Whether what a lane says of its batches fits together, so that no word alone makes one of none. */
 static bool fits_together(const struct lane *lane) {
-    if (lane->bringing > IS_TAKEN || lane->serving > HAS_SWITCHED || lane->taken - lane->given > 1 || lane->switched + 1 - lane->taken > 2) return false;
+    if (lane->bringing > WAS_TAKEN || lane->serving > HAS_SWITCHED || lane->taken - lane->given > 1 || lane->switched + 1 - lane->taken > 2) return false;
     if (lane->bringing == IS_BROUGHT && lane->taken == lane->given) return false;
-    return lane->bringing != IS_TAKEN || !is_whole(&lane->out) || lane->serving != NOT_SERVED || lane->switched == lane->taken + 1 || lane->taken == lane->given + 1;
+    return (lane->bringing != IS_TAKEN && lane->bringing != WAS_TAKEN) || !is_whole(&lane->out) || lane->serving != NOT_SERVED || lane->switched == lane->taken + 1 || lane->taken == lane->given + 1;
 }
 
-/* The batch that the consumer had or was taking: whether there was one. */
+/* The batch that the consumer was taking: whether there was one. */
+static bool send_taken(struct reading *reading) {
+    const struct lane *lane = reading->lane;
+    if (send_switched(reading)) return true;
+    if (is_whole(&lane->out)) {
+        send_last(reading, FOUND_KEPT, &lane->out);
+        return true;
+    }
+    if (lane->serving != NOT_SERVED || lane->switched != lane->taken + 1) return false;
+    send_raw(reading, FOUND_KEPT, 0, lane->filled + 1, 0, lane->sealed); /* it was on its way */
+    return true;
+}
+
+/* The batch that the consumer had, was taking or was giving back: whether there was one. The session gets it back where it handed it out as a whole. In the middle of that, and of giving it back, the session may
+ * have a half of it, which no record may go into. */
 static bool send_out(struct reading *reading) {
     struct lane *lane = reading->lane;
-    bool is_out = lane->bringing == IS_BROUGHT || lane->bringing == WAS_BROUGHT;
-    if (lane->bringing == IS_BROUGHT) send_whole(reading, FOUND_BROUGHT, 0, switched_records(lane), false, &lane->out);
-    if (lane->bringing == IS_TAKEN && send_switched(reading, FOUND_KEPT, 0, switched_records(lane), false)) return true;
-    if (lane->bringing == IS_TAKEN && is_whole(&lane->out)) {
-        send_whole(reading, FOUND_KEPT, 0, switched_records(lane), false, &lane->out);
-        is_out = true;
-    } else if (lane->bringing == IS_TAKEN && lane->serving == NOT_SERVED && lane->switched == lane->taken + 1) {
-        send_raw(reading, FOUND_KEPT, 0, lane->filled + 1, 0, lane->sealed); /* it was on its way */
-        is_out = true;
+    if (lane->bringing == IS_TAKEN) return send_taken(reading);
+    if (lane->bringing == IS_BROUGHT || lane->bringing == WAS_TAKEN) {
+        send_last(reading, lane->bringing == IS_BROUGHT ? FOUND_BROUGHT : FOUND_KEPT, &lane->out);
+        dspec_give_back(&lane->consumer, 0);
     }
-    dspec_give_back(&lane->consumer, 0);
-    return is_out;
+    return lane->bringing != NOT_OUT;
 }
 
 /* The records of an open path, which a commit puts after the others. before: how many those are, where the buffer can't be switched; else NULL. */
@@ -210,7 +231,7 @@ static void read_lane(struct reading *reading) {
     bool is_out;
     if (!fits_together(reading->lane)) give_up();
     is_out = send_out(reading);
-    is_out = send_switched(reading, FOUND_KEPT, 0, switched_records(reading->lane), false) || is_out;
+    is_out = send_switched(reading) || is_out;
     dspec_cpu_report(&reading->lane->front.cpu, &is); /* a service changes nothing that is counted here */
     records = is.accepted - reading->lane->accepted;
     uncertain = reading->in_call ? is.accepted - reading->lane->front.answered : 0;

@@ -24,6 +24,10 @@ static void find_buffers(struct lane *lane) {
     memcpy(lane->buffers, found, sizeof found);
 }
 
+/* Asks for the next batch before it is wanted, so a thread whose buffer is full switches by itself, and doesn't have to wait for a round. The last one is back by then, and that is noted: no switch comes
+ * in between, for dspec_salvage. */
+static void ask(struct lane *lane) { dspec_ask(&lane->consumer, 0); }
+
 dspec_status lane_start(struct lane *lane, const dspec_tracer_options *options, dspec_schema *schema) {
     const dspec_config config = lane_config(options);
     dspec_status status = dspec_start(&config, schema, &lane->session);
@@ -32,6 +36,7 @@ dspec_status lane_start(struct lane *lane, const dspec_tracer_options *options, 
     if (status == DSPEC_OK) status = dspec_paths_new(&lane->paths);
     if (status == DSPEC_OK && options->park_bytes > 0 && lane->number < lane->tracer->count) status = park_begin(lane, options->park_bytes);
     if (status == DSPEC_OK && lane->tracer->saved != NULL) find_buffers(lane);
+    if (status == DSPEC_OK) ask(lane);
     return status;
 }
 
@@ -42,8 +47,6 @@ void lane_drop(struct lane *lane) {
     dspec_drop(&lane->paths);
     dspec_drop(&lane->parked.ring);
 }
-
-void lane_ask(struct lane *lane) { dspec_ask(&lane->consumer, 0); }
 
 /* In the middle of a switch a buffer is nowhere but in the thread, whose kill would lose it. So the lane says before a service what is in the buffer, and after it that it has
  * switched, for dspec_salvage. */
@@ -66,16 +69,31 @@ static void serve_noted(struct lane *lane, bool *sealed, uint32_t *settled) {
     __atomic_store_n(&lane->serving, NOT_SERVED, __ATOMIC_RELEASE);
 }
 
-/* is_empty: whether all that it had is on its way. What a service settles and what the lane owes come after the switch, and are in the buffer that was just begun. */
-void lane_serve(struct lane *lane, bool *is_empty) {
+/* again: so many drops of the buffer are none, where it is switched out. is_empty: whether all that it had is on its way. What a service settles and what the lane owes come after the switch, and are in the buffer
+ * that was just begun. */
+static bool make_service(struct lane *lane, uint32_t again, bool *is_empty) {
     bool sealed = false, has_paid;
     uint32_t settled = 0;
+    STORE(&lane->again[lane->switched % 2], again);
     if (lane->buffers[0] != NULL) serve_noted(lane, &sealed, &settled);
     else dspec_service(&lane->front.cpu, &sealed, &settled);
+    if (lane->buffers[0] == NULL) lane->switched += sealed;
+    if (sealed) lane->all_again += again;
     has_paid = sealed && path_pays(lane);
     dspec_cpu_report(&lane->front.cpu, &lane->latest);
     lane_counts(lane, &lane->latest);
     *is_empty = sealed && settled == 0 && !has_paid;
+    return sealed;
+}
+
+bool lane_serve(struct lane *lane, bool *is_empty) { return make_service(lane, 0, is_empty); }
+
+bool lane_makes_room(struct lane *lane, roomless what) {
+    bool is_empty;
+    if (!make_service(lane, what, &is_empty)) return false;
+    __atomic_store_n(&lane->is_full, 1, __ATOMIC_RELEASE);
+    consumer_writes(lane->tracer);
+    return true;
 }
 
 /* Takes what was switched out: whether there is something. Where a kill comes after the library's take, what it took is told by `out` alone. */
@@ -88,19 +106,23 @@ static bool takes(struct lane *lane) {
         return false;
     }
     lane->out.cpu = lane->number;
+    __atomic_store_n(&lane->bringing, WAS_TAKEN, __ATOMIC_RELEASE);
     return true;
 }
 
 static void brings(body *tracer, struct lane *lane) {
+    dspec_batch batch = lane->out;
+    batch.drops -= LOAD(&lane->again[lane->given % 2]);
     STORE(&lane->waits_for_disk, false);
     lane->before = survive_brought(&tracer->folder);
     lane->taken++;
     __atomic_store_n(&lane->bringing, IS_BROUGHT, __ATOMIC_RELEASE);
-    if (lane->out.len > 0 || lane->out.drops > 0) dspec_folder_take(&tracer->folder, &tracer->layout, &lane->out);
+    if (batch.len > 0 || batch.drops > 0) dspec_folder_take(&tracer->folder, &tracer->layout, &batch);
     __atomic_store_n(&lane->bringing, WAS_BROUGHT, __ATOMIC_RELEASE);
     dspec_give_back(&lane->consumer, 0);
     lane->given++;
     __atomic_store_n(&lane->bringing, NOT_OUT, __ATOMIC_RELEASE);
+    ask(lane);
 }
 
 bool kept_waits_for_disk(const body *tracer) { return tracer->options.survive && tracer->folder.most_folders == 0; }
@@ -130,7 +152,6 @@ bool lanes_wait_for_disk(const body *tracer) {
 void lane_empty(body *tracer, struct lane *lane) {
     for (int buffers = lane->owes == OWES_EVENT ? 3 : 2; buffers > 0; buffers--) {
         bool is_empty;
-        lane_ask(lane);
         lane_serve(lane, &is_empty);
         lane_write(tracer, lane);
     }
@@ -167,6 +188,8 @@ void lane_add_parked(const struct lane *lane, dspec_tracer_report *sum) {
 
 void lane_counts(const struct lane *lane, dspec_report *report) {
     report->specdropped -= lane->turned;
+    report->dropped -= lane->all_again;
+    report->drops -= lane->all_again;
     report->accepted -= lane->own_accepted;
     report->lost -= lane->own_lost;
     report->discarded -= lane->own_discarded;
@@ -178,7 +201,7 @@ bool lane_end(body *tracer, struct lane *lane) {
     dspec_closed closed = DSPEC_EMPTY;
     dspec_report report;
     dspec_batch batch;
-    if (LOAD(&lane->waits_for_disk)) brings(tracer, lane);
+    if (takes(lane)) brings(tracer, lane);
     if (lane->owes == OWES_EVENT) lane_empty(tracer, lane);
     if (dspec_close(&lane->session, cpus, 1, &lane->consumer, &closed) != DSPEC_OK) return false;
     for (int last = 0; last < 2; last++) {

@@ -263,8 +263,8 @@ static bool post(body *tracer, int signal, const siginfo_t *info, const void *co
         crash->address = info->si_code > 0 ? (uint64_t)(uintptr_t)info->si_addr : 0;
         crash->at = stamp_of(tracer);
         note_registers(crash, context);
-        crash->token = dspec_tracer_token_6;
-        crash->recent = LOAD(&dspec_tracer_recent_6);
+        crash->token = dspec_tracer_token_7;
+        crash->recent = LOAD(&dspec_tracer_recent_7);
         crash->is_from_outside = is_from_outside;
         crash->is_last = is_last;
         note_sender(&crash->by, info, crash->at);

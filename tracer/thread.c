@@ -17,8 +17,8 @@ __thread struct here dspec_here __attribute__((tls_model("initial-exec")));
 #define FREE_SEAT { .run = DSPEC_TRACER_NONE_, .plain = DSPEC_TRACER_NONE_ }
 __thread dspec_tracer_seat dspec_seats[DSPEC_MAX_TRACERS] __attribute__((tls_model("initial-exec"))) = { FREE_SEAT, FREE_SEAT, FREE_SEAT, FREE_SEAT, FREE_SEAT, FREE_SEAT, FREE_SEAT, FREE_SEAT };
 static_assert(DSPEC_MAX_TRACERS == 8, "a free seat for each");
-__thread uint32_t dspec_tracer_token_6 __attribute__((tls_model("initial-exec"))) = NO_TOKEN;
-__thread uint64_t dspec_tracer_recent_6 __attribute__((tls_model("initial-exec")));
+__thread uint32_t dspec_tracer_token_7 __attribute__((tls_model("initial-exec"))) = NO_TOKEN;
+__thread uint64_t dspec_tracer_recent_7 __attribute__((tls_model("initial-exec")));
 
 static pthread_key_t key;
 static bool has_key;
@@ -52,8 +52,8 @@ bool stack_is_ours(const stack_t *stack) { return dspec_here.stack != NULL && st
 
 /* The thread has no seat, and is none that has been. A handler that comes in between finds a seat that is busy or no run's. */
 static void forget(void) {
-    dspec_tracer_token_6 = NO_TOKEN;
-    dspec_tracer_recent_6 = 0;
+    dspec_tracer_token_7 = NO_TOKEN;
+    dspec_tracer_recent_7 = 0;
     for (uint32_t slot = 0; slot < DSPEC_MAX_TRACERS; slot++) {
         dspec_tracer_seat *seat = &dspec_seats[slot];
         seat->run = DSPEC_TRACER_NONE_;
@@ -74,13 +74,13 @@ static bool enter_at(uint32_t slot) {
 
 /* The thread ends: what it left undecided is thrown away, and its lanes are others'. It is in each tracer meanwhile, and has no token, so that a handler's call finds nothing of it. */
 static void detach(void *unused) {
-    const uint32_t token = dspec_tracer_token_6;
+    const uint32_t token = dspec_tracer_token_7;
     bool is_in[DSPEC_MAX_TRACERS];
     (void)unused;
     tracers_lock();
     /* A seat that is in a call still was thrown out of it by a signal's handler: its lane stays as it is. */
     for (uint32_t slot = 0; slot < DSPEC_MAX_TRACERS; slot++) is_in[slot] = enter_at(slot);
-    dspec_tracer_token_6 = NO_TOKEN;
+    dspec_tracer_token_7 = NO_TOKEN;
     for (uint32_t slot = 0; slot < DSPEC_MAX_TRACERS; slot++) {
         dspec_tracer_seat *seat = &dspec_seats[slot];
         body *tracer = tracer_at(slot);
@@ -114,18 +114,18 @@ static void see(body *tracer) {
 /* Whether the thread has a number that no other has or had; one is taken where it has none. */
 static bool has_token(void) {
     uint32_t given = LOAD(&tokens);
-    if (dspec_tracer_token_6 != NO_TOKEN) return true;
+    if (dspec_tracer_token_7 != NO_TOKEN) return true;
     do {
         if (given == DSPEC_MOST_TOKENS) return false;
     } while (!__atomic_compare_exchange_n(&tokens, &given, given + 1, false, __ATOMIC_RELAXED, __ATOMIC_RELAXED));
-    dspec_tracer_token_6 = given + 1;
+    dspec_tracer_token_7 = given + 1;
     return true;
 }
 
 /* The thread is in the tracer meanwhile, so that no handler comes in between. */
 static void attach(body *tracer, dspec_tracer_seat *seat) {
     seat->open = 0;
-    seat->last = &tracer->lanes[dspec_tracer_token_6 % tracer->count].front;
+    seat->last = &tracer->lanes[dspec_tracer_token_7 % tracer->count].front;
     if (!tracer->options.no_crash) stack_on();
     if (has_key) pthread_setspecific(key, &dspec_here);
     if (dspec_here.thread == 0) dspec_here.thread = (uint32_t)syscall(SYS_gettid);

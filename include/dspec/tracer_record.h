@@ -27,6 +27,13 @@ extern "C" {
 /* Of a lane's state: six bits; three more, which say who keeps it between paths; and above them how many paths are on it, and 1 more where it is a thread's own (tracer/body.h). */
 #define DSPEC_TRACER_HELD_ 1u
 #define DSPEC_TRACER_LOOK_ 59u /* with one of these a thread doesn't get into a call on its own lane without a closer look */
+/* The number of the flag by which a thread keeps a lane is counted in these; and what is counted above it while the lane is at rest. */
+#define DSPEC_TRACER_FLAG_ 64u
+#define DSPEC_TRACER_FLAGS_ 7
+#define DSPEC_TRACER_AT_REST_ 1024u
+/* Of a flag that a thread has: that doesn't use the lane, or does. */
+#define DSPEC_TRACER_RESTS_ 1u
+#define DSPEC_TRACER_IN_USE_ 2u
 
 /* What a record has to know of a lane. */
 typedef struct dspec_tracer_lane {
@@ -37,11 +44,12 @@ typedef struct dspec_tracer_lane {
     uint64_t answered; /* records in the principal buffer whose calls have come back; both are for dspec_salvage */
     dspec_cpu cpu;
     uint32_t clock; /* of its stamps: DSPEC_CLOCK_MONOTONIC or DSPEC_CLOCK_TSC */
+    uint8_t uses[DSPEC_TRACER_FLAGS_ + 1]; /* the flags of threads that keep it, by their numbers, which begin with 1 */
 } dspec_tracer_lane;
 
 /* And of its thread in a tracer. */
 typedef struct dspec_tracer_seat {
-    dspec_tracer_lane *last; /* the lane that it had last; where it has none of its own, a record is tried there that is in no path */
+    dspec_tracer_lane *last; /* the lane that it had last; where it keeps that, a record is tried there that is in no path */
     dspec_tracer_lane *own;  /* its own, or NULL */
     uint32_t run;            /* of the tracer; another's is stale */
     uint32_t plain;          /* the same; DSPEC_TRACER_NONE_ where the thread has a lane of its own, and in the middle of a record that is in no path */
@@ -56,19 +64,25 @@ typedef struct dspec_tracer_seat {
 /* What records of an event claim that is switched off. */
 #define DSPEC_TRACER_OFF_ 1u
 
+/* In place of a record's status: it is made once more. */
+#define DSPEC_TRACER_AGAIN_ DSPEC_AS(dspec_status, 43)
+
 /* A number that no other thread has or had, and not 0. A handler may look at it: it is where the thread's memory is, and is never made at its first use. That room is scarce where a library is loaded
  * late. The number in the name goes up with each change of what is laid out here or in dspec_tracer.h, so that a program which was compiled with another one finds no library. */
-extern __thread uint32_t dspec_tracer_token_6 __attribute__((tls_model("initial-exec")));
+extern __thread uint32_t dspec_tracer_token_7 __attribute__((tls_model("initial-exec")));
 /* The number of the path to which the thread recorded last, in the upper half. */
-extern __thread uint64_t dspec_tracer_recent_6 __attribute__((tls_model("initial-exec")));
+extern __thread uint64_t dspec_tracer_recent_7 __attribute__((tls_model("initial-exec")));
 
-/* A record that isn't made in its caller: the first of a path, one on another thread, or one that somebody is in the way of. */
+/* A record that isn't made in its caller: the first of a path, one on another thread, or one that somebody is in the way of. Few words go in registers. */
 dspec_status dspec_path_put_slowly_(dspec_path *path, const dspec_event *event, const uint64_t *words, size_t n) DSPEC_NOEXCEPT;
+dspec_status dspec_path_put_slowly_2_(dspec_path *path, const dspec_event *event, uint64_t w0, uint64_t w1) DSPEC_NOEXCEPT;
+dspec_status dspec_path_put_slowly_3_(dspec_path *path, const dspec_event *event, uint64_t w0, uint64_t w1, uint64_t w2) DSPEC_NOEXCEPT;
 dspec_status dspec_tracer_put_slowly_(dspec_tracer *tracer, const dspec_event *event, const uint64_t *words, size_t n) DSPEC_NOEXCEPT;
 
-/* After a record that wasn't made. Of one in a path, in the call on its lane: whether it is made once more. */
+/* After a record that wasn't made. Of one in a path, in the call on its lane: whether it is made once more. Of another one, in the call on the lane that its thread keeps, which this leaves: what came of it,
+ * or that it is made once more. */
 bool dspec_path_turn(dspec_path *path, const dspec_event *event, dspec_status status) DSPEC_NOEXCEPT;
-void dspec_tracer_missed(dspec_tracer *tracer, const dspec_event *event, dspec_status status) DSPEC_NOEXCEPT;
+dspec_status dspec_tracer_turn(dspec_tracer *tracer, const dspec_event *event, dspec_status status) DSPEC_NOEXCEPT;
 
 /* clock_gettime, which <time.h> shows only to programs that ask for POSIX. */
 int dspec_tracer_clock_(int clock, struct timespec *at) DSPEC_NOEXCEPT __asm__("clock_gettime") DSPEC_TRACER_NO_PLT_;
@@ -88,7 +102,7 @@ DSPEC_INLINE char *dspec_tracer_thread_(void) DSPEC_NOEXCEPT {
 #if defined(__x86_64__)
     __asm__("movq %%fs:0, %0" : "=r"(at));
 #else
-    at = DSPEC_AS(char *, DSPEC_AS(void *, &dspec_tracer_token_6));
+    at = DSPEC_AS(char *, DSPEC_AS(void *, &dspec_tracer_token_7));
 #endif
     return at;
 }
@@ -98,7 +112,7 @@ DSPEC_INLINE dspec_tracer_seat *dspec_tracer_seat_of_(const dspec_tracer *tracer
 }
 
 /* Whether a path is open on its thread's own lane, and this is its thread. */
-DSPEC_INLINE bool dspec_path_is_here_(const dspec_path *path) DSPEC_NOEXCEPT { return path->token == dspec_tracer_token_6; }
+DSPEC_INLINE bool dspec_path_is_here_(const dspec_path *path) DSPEC_NOEXCEPT { return path->token == dspec_tracer_token_7; }
 
 /* Whether the thread's record that is in no path can be tried on the lane that it had last. */
 DSPEC_INLINE bool dspec_tracer_is_plain_(const dspec_tracer *tracer) DSPEC_NOEXCEPT {
@@ -115,6 +129,25 @@ DSPEC_INLINE bool dspec_tracer_enter_(dspec_tracer_lane *lane) DSPEC_NOEXCEPT {
 }
 
 DSPEC_INLINE void dspec_tracer_leave_(dspec_tracer_lane *lane) DSPEC_NOEXCEPT { __atomic_store_n(&lane->inside, 0, __ATOMIC_RELEASE); }
+
+/* The flag of the thread that keeps a lane, by the lane's state at rest. */
+DSPEC_INLINE uint8_t *dspec_tracer_flag_(dspec_tracer_lane *lane, size_t kept) DSPEC_NOEXCEPT {
+    return &lane->uses[kept / DSPEC_TRACER_FLAG_ - DSPEC_TRACER_AT_REST_ / DSPEC_TRACER_FLAG_];
+}
+
+/* The lane that the thread keeps is at rest. Others see what it did there, once they see the flag. */
+DSPEC_INLINE void dspec_tracer_rests_(dspec_tracer_lane *lane, uint32_t kept) DSPEC_NOEXCEPT {
+    __atomic_store_n(dspec_tracer_flag_(lane, kept), DSPEC_TRACER_RESTS_, __ATOMIC_RELEASE);
+}
+
+/* Uses the lane again that the thread keeps: whether nobody has taken it, is on it or wants it. but: bits of its state that are no matter. */
+DSPEC_INLINE bool dspec_tracer_uses_(dspec_tracer_lane *lane, uint32_t kept, uint32_t but) DSPEC_NOEXCEPT {
+    __atomic_store_n(dspec_tracer_flag_(lane, kept), DSPEC_TRACER_IN_USE_, __ATOMIC_RELAXED);
+    __atomic_signal_fence(__ATOMIC_SEQ_CST);
+    if (DSPEC_TRACER_LIKELY_((__atomic_load_n(&lane->state, __ATOMIC_ACQUIRE) & ~but) == kept)) return true;
+    dspec_tracer_rests_(lane, kept);
+    return false;
+}
 
 /* Whether a word is 0, which others may write. A compiler loads an atomic word before it compares it; this compares it where it is. */
 DSPEC_TRACER_INTO_CALLER_ bool dspec_tracer_is_zero_(const uint32_t *word) DSPEC_NOEXCEPT {
@@ -190,36 +223,63 @@ DSPEC_TRACER_INTO_CALLER_ bool dspec_path_try_(dspec_path *path, const dspec_eve
     if (!DSPEC_TRACER_LIKELY_(dspec_tracer_enter_(lane))) return false;
     now = dspec_tracer_stamp_(&lane->clock);
     mark = path->mark;
-    __atomic_store_n(&dspec_tracer_recent_6, mark, __ATOMIC_RELAXED);
+    __atomic_store_n(&dspec_tracer_recent_7, mark, __ATOMIC_RELAXED);
     *status = dspec_tracer_put_in_(&lane->cpu, path->id, dspec_tracer_claim_(event, lane->slot), now, words[0] | mark, words, n);
     if (!DSPEC_TRACER_LIKELY_(*status == DSPEC_OK)) is_made = !dspec_path_turn(path, event, *status);
     dspec_tracer_leave_(lane);
     return is_made;
 }
 
-/* Of no path, on the lane that the thread had last, where nobody else is on that. A handler that comes in between finds that `plain` is no run; one that comes before may change which lane that is. */
+/* Into a call on the lane that the thread keeps, and out of it. `inside` is another's where that has taken the lane, so the flag is set before it, and the state looked at. */
+DSPEC_INLINE bool dspec_tracer_enter_kept_(dspec_tracer_lane *lane, uint32_t kept) DSPEC_NOEXCEPT {
+    if (!DSPEC_TRACER_LIKELY_(dspec_tracer_uses_(lane, kept, 0))) return false;
+    if (DSPEC_TRACER_LIKELY_(dspec_tracer_enter_(lane))) return true;
+    dspec_tracer_rests_(lane, kept);
+    return false;
+}
+
+DSPEC_INLINE void dspec_tracer_leave_kept_(dspec_tracer_lane *lane, uint32_t kept) DSPEC_NOEXCEPT {
+    dspec_tracer_leave_(lane);
+    dspec_tracer_rests_(lane, kept);
+}
+
+/* Of no path, on the lane that the thread keeps, where nobody is in its way. A handler that comes in between finds that `plain` is no run. One that comes before that may change which lane that is, or
+ * leave a path open there: then the lane is the thread's own. */
 DSPEC_TRACER_INTO_CALLER_ bool dspec_tracer_try_(dspec_tracer *tracer, const dspec_event *event, const uint64_t *words, size_t n, dspec_status *status) DSPEC_NOEXCEPT {
     dspec_tracer_seat *seat = dspec_tracer_seat_of_(tracer);
     dspec_tracer_lane *lane;
     const uint32_t run = __atomic_load_n(&tracer->run, __ATOMIC_RELAXED);
-    uint32_t state;
+    uint32_t kept;
     bool is_in;
     if (!DSPEC_TRACER_LIKELY_(seat->plain == run)) return false;
     dspec_tracer_reach_();
     __atomic_store_n(&seat->plain, DSPEC_TRACER_NONE_, __ATOMIC_RELAXED);
     __atomic_signal_fence(__ATOMIC_SEQ_CST);
+    if (!DSPEC_TRACER_LIKELY_(seat->own == NULL)) return false;
     lane = seat->last;
-    state = seat->kept;
-    is_in = __atomic_compare_exchange_n(&lane->state, &state, state | DSPEC_TRACER_HELD_, false, __ATOMIC_SEQ_CST, __ATOMIC_SEQ_CST);
+    kept = seat->kept;
+    is_in = DSPEC_TRACER_LIKELY_(kept != 0) && DSPEC_TRACER_LIKELY_(dspec_tracer_enter_kept_(lane, kept));
     if (DSPEC_TRACER_LIKELY_(is_in)) {
         const uint64_t now = dspec_tracer_stamp_(&lane->clock);
         *status = dspec_tracer_fill_(lane, dspec_tracer_claim_(event, lane->slot), now, words, n);
-        __atomic_fetch_and(&lane->state, ~DSPEC_TRACER_HELD_, __ATOMIC_SEQ_CST);
+        if (!DSPEC_TRACER_LIKELY_(*status == DSPEC_OK)) {
+            *status = dspec_tracer_turn(tracer, event, *status);
+            return *status != DSPEC_TRACER_AGAIN_;
+        }
+        dspec_tracer_leave_kept_(lane, kept);
     }
     __atomic_signal_fence(__ATOMIC_SEQ_CST);
     __atomic_store_n(&seat->plain, run, __ATOMIC_RELAXED);
-    if (is_in && !DSPEC_TRACER_LIKELY_(*status == DSPEC_OK)) dspec_tracer_missed(tracer, event, *status);
     return is_in;
+}
+
+/* Of a path, where nothing was tried in the caller. */
+DSPEC_TRACER_INTO_CALLER_ dspec_status dspec_path_record_slowly_(dspec_path *path, const dspec_event *event, const uint64_t *words, size_t n) DSPEC_NOEXCEPT {
+    switch (n) {
+    case 2: return dspec_path_put_slowly_2_(path, event, words[0], words[1]);
+    case 3: return dspec_path_put_slowly_3_(path, event, words[0], words[1], words[2]);
+    default: return dspec_path_put_slowly_(path, event, words, n);
+    }
 }
 
 /* Of an event that each tracer records which has it. */

@@ -1,4 +1,4 @@
-/* A tracer without work makes no wakeups, and hears of work again. `asleep FOLDER`; its last line counts its checks.
+/* A tracer without work makes no wakeups, and hears of work again. `asleep FOLDER [kept]`; its last line counts its checks. kept: those alone that are for threads that keep their lanes.
  *
  * The consumer's thread is found by its name. How often it has woken is what the system counts as its voluntary switches. Nothing here has to be done in a time but waits of a minute, after which it is
  * taken for lost. */
@@ -107,6 +107,22 @@ static void one_by_one(dspec_tracer_options options) {
         usleep((unsigned)i * 500);
     }
     CHECK(falls_asleep());
+    stop();
+}
+
+/* A thread that keeps its lane makes records in a row, some of them as the consumer falls asleep, and then none. */
+static void records_in_a_row(void) {
+    enum { ROWS = 200, IN_A_ROW = 3 };
+    uint64_t records = 0;
+    start((dspec_tracer_options){ .lanes = 1, .period_ms = 1 });
+    for (unsigned row = 0; row < ROWS; row++) {
+        for (int i = 0; i < IN_A_ROW; i++) ANSWERS(tick_now(&tracer, records++), DSPEC_OK);
+        if (!CHECK(are_served(records))) break;
+        usleep(row * 25);
+    }
+    CHECK(falls_asleep());
+    ANSWERS(tick_now(&tracer, records++), DSPEC_OK);
+    CHECK(are_served(records) && falls_asleep());
     stop();
 }
 
@@ -240,6 +256,13 @@ static void keys_in_storms(void) {
 int main(int argc, char **argv) {
     if (argc < 2) return 2;
     folder = argv[1];
+    if (argc > 2) {
+        records_in_a_row();
+        one_by_one((dspec_tracer_options){ .lanes = 1 });
+        storms((dspec_tracer_options){ .period_ms = 1 });
+        storms((dspec_tracer_options){ .period_ms = 1, .lanes = 2 });
+        return check_end();
+    }
     one_by_one((dspec_tracer_options){ 0 });
     one_by_one((dspec_tracer_options){ .by_thread = true, .period_ms = 1 });
     one_by_one((dspec_tracer_options){ .no_membarrier = true, .lanes = 1 });

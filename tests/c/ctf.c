@@ -117,6 +117,45 @@ static void what_is_lost_is_told(void) {
     dspec_ctf_drop(&ctf);
 }
 
+/* Two CPUs' files take turns at their rooms. While a packet of a batch may be lost, or one is left, neither has the other's; what they missed is told as before. */
+static void rooms_in_turns(void) {
+    const uint64_t stamps[] = { 10, 20 }, other_stamp[] = { 9 }, later[] = { 30 };
+    dspec_ctf ctf = DSPEC_EMPTY, other = DSPEC_EMPTY;
+    dspec_packet put = { 1, 2, 3 };
+    uint8_t room[8];
+    uint64_t records = 99;
+    bytes first = { .len = 0 }, told = { .len = 0 }, of_other = { .len = 0 }, second = { .len = 0 }, told_later = { .len = 0 };
+    packet(&first, 10, 20, 0, stamps, 2);
+    packet(&told, 0, 0, 0, NULL, 0);
+    packet(&told, 0, 0, 4, NULL, 0);
+    packet(&of_other, 9, 9, 4, other_stamp, 1);
+    packet(&second, 30, 30, 0, later, 1);
+    packet(&told_later, 9, 9, 4, NULL, 0);
+    packet(&told_later, 9, 9, 5, NULL, 0);
+    MUST(dspec_ctf_new(&schema, &identity, 3, &ctf));
+    MUST(dspec_ctf_new(&schema, &identity, 3, &other));
+    MUST(open_with(&ctf, 0, stamps, 2));
+    MUST(open_with(&other, 4, other_stamp, 1));
+    ANSWERS(dspec_ctf_swap_rooms(&ctf, &other), DSPEC_BUSY);
+    is_next(&ctf, 0, 2, &first);
+    ANSWERS(dspec_ctf_put(&ctf, room, sizeof room, &put), DSPEC_NO_PACKET);
+    ANSWERS(dspec_ctf_swap_rooms(&ctf, &other), DSPEC_BUSY);
+    is_next(&other, 0, 0, &told);
+    is_next(&other, 0, 1, &of_other);
+    ANSWERS(dspec_ctf_swap_rooms(&other, &ctf), DSPEC_BUSY);
+    ANSWERS(dspec_ctf_lose(&other, &records), DSPEC_OK);
+    CHECK(records == 1);
+    ANSWERS(dspec_ctf_swap_rooms(&other, &ctf), DSPEC_OK);
+    CHECK(ctf.held && other.held);
+    MUST(open_with(&ctf, 0, later, 1));
+    is_next(&ctf, 0, 1, &second);
+    MUST(open_with(&other, 0, NULL, 0));
+    is_next(&other, 0, 0, &told_later);
+    ANSWERS(dspec_ctf_put(&other, room, sizeof room, &put), DSPEC_NO_PACKET);
+    dspec_ctf_drop(&ctf);
+    dspec_ctf_drop(&other);
+}
+
 /* The stamps 64, 63, .. 1 have a file each, and 0 would have one more. */
 static void one_file_too_many(void) {
     uint64_t stamps[65], records = 99;
@@ -145,6 +184,7 @@ static void refused(void) {
     ANSWERS(dspec_ctf_put(&empty, room, sizeof room, &put), DSPEC_BAD_HANDLE);
     ANSWERS(dspec_ctf_open(&empty, 3, 0, room, 0), DSPEC_BAD_HANDLE);
     ANSWERS(dspec_ctf_reserve(&empty, 64), DSPEC_BAD_HANDLE);
+    ANSWERS(dspec_ctf_swap_rooms(&empty, &ctf), DSPEC_BAD_HANDLE);
     ANSWERS(dspec_ctf_lose(&empty, &records), DSPEC_BAD_HANDLE);
     ANSWERS(dspec_ctf_miss(&empty, 1), DSPEC_BAD_HANDLE);
     ANSWERS(dspec_ctf_put((dspec_ctf *)&schema, room, sizeof room, &put), DSPEC_BAD_HANDLE);
@@ -155,6 +195,9 @@ static void refused(void) {
     CHECK(!ctf.held);
     MUST(dspec_ctf_new(&schema, &identity, 3, &ctf));
     ANSWERS(dspec_ctf_new(&schema, &identity, 3, &ctf), DSPEC_FULL_HANDLE);
+    ANSWERS(dspec_ctf_swap_rooms(&ctf, &empty), DSPEC_BAD_HANDLE);
+    ANSWERS(dspec_ctf_swap_rooms(&empty, &ctf), DSPEC_BAD_HANDLE);
+    ANSWERS(dspec_ctf_swap_rooms(&ctf, (dspec_ctf *)&schema), DSPEC_BAD_HANDLE);
     ANSWERS(dspec_ctf_new((dspec_schema *)&ctf, &identity, 3, &empty), DSPEC_BAD_HANDLE);
     ANSWERS(dspec_ctf_open(&ctf, 2, 0, room, 0), DSPEC_NO_SUCH_CPU);
     ANSWERS(dspec_ctf_open(&ctf, 3, 0, (const uint8_t[]){ 9, 0, 0, 0 }, 4), DSPEC_BAD_RECORD);
@@ -327,6 +370,7 @@ int main(int argc, char **argv) {
     MUST(dspec_layout_enable(&layout, &schema, FOUR, 1, &epid));
     runs_of_a_batch();
     what_is_lost_is_told();
+    rooms_in_turns();
     one_file_too_many();
     refused();
     metadata();

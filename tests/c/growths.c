@@ -48,9 +48,10 @@ static dspec_cpu cpus[2];
 static dspec_consumer consumer;
 static dspec_closed closed;
 static dspec_schema stamped;
-static dspec_ctf ctf, roomy;
+static dspec_ctf ctf, roomy, guest;
 
 static void let_go(void) {
+    dspec_ctf_drop(&guest);
     dspec_ctf_drop(&roomy);
     dspec_ctf_drop(&ctf);
     dspec_schema_drop(&stamped);
@@ -156,17 +157,17 @@ static const uint8_t two_records[] = { 1, 0, 0, 0, 9, 0, 0, 0, 0, 0, 0, 0, 7, 0,
 static dspec_identity identity = { .hertz = 1000, .host = { "here", 4 }, .name = { "growths", 7 } };
 
 /* Puts all packets of a batch: how many records they have. */
-static size_t put_all(uint8_t *room, size_t size) {
+static size_t put_all(dspec_ctf *of, uint8_t *room, size_t size) {
     dspec_packet packet;
     dspec_status status;
     size_t records = 0;
-    while ((status = dspec_ctf_put(&roomy, room, size, &packet)) == DSPEC_OK) records += packet.records;
+    while ((status = dspec_ctf_put(of, room, size, &packet)) == DSPEC_OK) records += packet.records;
     if (status != DSPEC_NO_PACKET) fail("a packet", status);
     return records;
 }
 
 /* Batches for which there is room: from there on no call takes memory. The last has as many records as so many bytes may have, as many files as a CPU
- * may have, and after them a run of several packets; each has what tells of its drops too. */
+ * may have, and after them a run of several packets; each has what tells of its drops too. Another CPU has such a batch in the same room. */
 static void trace_in_room(void) {
     enum { SMALLEST = 12, MANY = 400 };
     static const dspec_ctf nothing = DSPEC_EMPTY;
@@ -183,11 +184,20 @@ static void trace_in_room(void) {
     if (dspec_ctf_room(sizeof many) > sizeof room) fail("a room", DSPEC_OK);
     const long before = asked;
     OK(dspec_ctf_open(&roomy, 0, 1, many, sizeof many));
-    if (put_all(room, dspec_ctf_room(sizeof many)) != MANY) fail("the records of a batch", DSPEC_OK);
+    if (put_all(&roomy, room, dspec_ctf_room(sizeof many)) != MANY) fail("the records of a batch", DSPEC_OK);
     OK(dspec_ctf_open(&roomy, 0, 1, many, sizeof many));
     OK(dspec_ctf_lose(&roomy, &lost));
     if (lost != MANY) fail("a batch that is lost", DSPEC_OK);
     if (asked != before) fail("a batch that has room asked for memory", DSPEC_OK);
+    ASK(dspec_ctf_new(&stamped, &identity, 1, &guest), &guest);
+    const long then = asked;
+    OK(dspec_ctf_swap_rooms(&guest, &roomy));
+    OK(dspec_ctf_open(&guest, 1, 1, many, sizeof many));
+    if (put_all(&guest, room, dspec_ctf_room(sizeof many)) != MANY) fail("the records of a batch in another's room", DSPEC_OK);
+    OK(dspec_ctf_swap_rooms(&roomy, &guest));
+    OK(dspec_ctf_open(&roomy, 0, 1, many, sizeof many));
+    OK(dspec_ctf_lose(&roomy, &lost));
+    if (asked != then) fail("a batch in another's room asked for memory", DSPEC_OK);
 }
 
 /* The metadata of a trace, and two packets of a batch. */

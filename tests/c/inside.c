@@ -53,7 +53,7 @@ static struct lane *fresh(uint32_t number, uint32_t state) {
     lane->front.state = state;
     lane->front.inside = 0;
     lane->handed = 0;
-    memset(lane->uses, FREE_FLAG, sizeof lane->uses);
+    memset(lane->front.uses, FREE_FLAG, sizeof lane->front.uses);
     lane->had_by = lane->in_a_row = 0;
     lane->number = number;
     lane->tracer = of;
@@ -71,7 +71,7 @@ static void begin(void) {
     of->late = of->waited = of->nested = 0;
     *me = (dspec_tracer_seat){ .last = &of->lanes[0].front, .run = of->run, .plain = of->run };
     dspec_here.hands_on = 0;
-    dspec_tracer_token_6 = 9;
+    dspec_tracer_token_7 = 9;
     used_at_barrier = NULL;
     refuses_barriers = false;
     barriers = 0;
@@ -221,16 +221,16 @@ static struct lane *kept(void) {
     begin();
     for (uint32_t i = 1; i < LANES; i++) fresh(i, (PATHS + 1) * USER);
     lane = fresh(0, FIRST_FLAG + 2 * USER);
-    lane->uses[1] = RESTS;
+    lane->front.uses[1] = RESTS;
     me->kept = FIRST_FLAG + 2 * USER;
     return lane;
 }
 
 static bool is_at_rest(const struct lane *lane) {
-    return is(lane, FIRST_FLAG + 2 * USER) && lane->uses[1] == RESTS && me->kept == FIRST_FLAG + 2 * USER && me->own == NULL && me->plain == me->run && me->open == 0;
+    return is(lane, FIRST_FLAG + 2 * USER) && lane->front.uses[1] == RESTS && me->kept == FIRST_FLAG + 2 * USER && me->own == NULL && me->plain == me->run && me->open == 0;
 }
 
-static bool is_not_kept(const struct lane *lane) { return lane->uses[1] == FREE_FLAG && me->kept == 0; }
+static bool is_not_kept(const struct lane *lane) { return lane->front.uses[1] == FREE_FLAG && me->kept == 0; }
 
 /* So many paths in a row have a thread keep its lane, where no other was on it meanwhile, it has a flag left, no other is on it now, and there is membarrier(2). */
 static void keeps(void) {
@@ -245,8 +245,8 @@ static void keeps(void) {
         begin();
         lane = fresh(0, 0);
         for (int i = 1; i < PATHS_BEFORE; i++) one_path(lane);
-        if (why == 0) lane->had_by = dspec_tracer_token_6 + 1;
-        else if (why == 1) memset(lane->uses, RESTS, sizeof lane->uses);
+        if (why == 0) lane->had_by = dspec_tracer_token_7 + 1;
+        else if (why == 1) memset(lane->front.uses, RESTS, sizeof lane->front.uses);
         else of->locked = 1;
         one_path(lane);
         CHECK(is(lane, 0) && me->kept == 0);
@@ -254,7 +254,7 @@ static void keeps(void) {
     begin();
     lane = fresh(0, 0);
     lane->in_a_row = PATHS_BEFORE - 1;
-    lane->had_by = dspec_tracer_token_6;
+    lane->had_by = dspec_tracer_token_7;
     CHECK(lane_for_path(of, me) == lane && lane_shared(of, 0) == lane);
     me->open = 1;
     lane_path_off(me, lane, true);
@@ -265,15 +265,15 @@ static void keeps(void) {
 static void goes_on(void) {
     static const uint32_t bits[] = { HELD, SERVE, IDLE, WANTED, GONE };
     struct lane *lane = kept();
-    CHECK(lane_claim_last(me, lane) && me->own == &lane->front && me->plain == DSPEC_TRACER_NONE_ && lane->uses[1] == IN_USE && is(lane, FIRST_FLAG + 2 * USER));
+    CHECK(lane_claim_last(me, lane) && me->own == &lane->front && me->plain == DSPEC_TRACER_NONE_ && lane->front.uses[1] == IN_USE && is(lane, FIRST_FLAG + 2 * USER));
     me->open = 1;
     lane_path_off(me, lane, true);
     CHECK(is_at_rest(lane) && barriers == 0);
     for (size_t i = 0; i < sizeof bits / sizeof bits[0]; i++) {
         lane = kept();
         lane->front.state |= bits[i];
-        CHECK(!lane_claim_last(me, lane) && lane->uses[1] == RESTS && me->own == NULL);
-        CHECK(lane_for_path(of, me) == lane && me->own == &lane->front && lane->uses[1] == IN_USE && is(lane, FIRST_FLAG + 2 * USER + bits[i]) && me->kept != 0);
+        CHECK(!lane_claim_last(me, lane) && lane->front.uses[1] == RESTS && me->own == NULL);
+        CHECK(lane_for_path(of, me) == lane && me->own == &lane->front && lane->front.uses[1] == IN_USE && is(lane, FIRST_FLAG + 2 * USER + bits[i]) && me->kept != 0);
     }
     lane = kept();
     lane->front.state |= SHARED;
@@ -287,9 +287,9 @@ static void taken_over(void) {
     first = *me;
     *me = (dspec_tracer_seat){ .last = &lane->front, .run = of->run, .plain = of->run };
     lane->front.state |= SHARED | IDLE;
-    CHECK(lane_for_path(of, me) == lane && me->own == &lane->front && me->last == &lane->front && is(lane, 2 * USER | IDLE) && barriers == 1 && lane->uses[1] == RESTS);
+    CHECK(lane_for_path(of, me) == lane && me->own == &lane->front && me->last == &lane->front && is(lane, 2 * USER | IDLE) && barriers == 1 && lane->front.uses[1] == RESTS);
     me = &first;
-    CHECK(!lane_claim_last(me, lane) && lane->uses[1] == RESTS);
+    CHECK(!lane_claim_last(me, lane) && lane->front.uses[1] == RESTS);
     CHECK(lane_for_path(of, me) == lane && me->own == NULL && is_not_kept(lane) && is(lane, 3 * USER | IDLE));
     me = mine;
 }
@@ -299,9 +299,9 @@ static void stays_in_use(void) {
     for (int late = 0; late < 2; late++) {
         struct lane *lane = kept();
         me->kept = 0;
-        if (late == 0) lane->uses[1] = IN_USE;
-        else used_at_barrier = &lane->uses[1];
-        CHECK(lane_for_path(of, me) == lane && me->own == NULL && is(lane, FIRST_FLAG + 3 * USER) && barriers == (late == 0 ? 0u : 1u) && lane->uses[1] == IN_USE);
+        if (late == 0) lane->front.uses[1] = IN_USE;
+        else used_at_barrier = &lane->front.uses[1];
+        CHECK(lane_for_path(of, me) == lane && me->own == NULL && is(lane, FIRST_FLAG + 3 * USER) && barriers == (late == 0 ? 0u : 1u) && lane->front.uses[1] == IN_USE);
     }
 }
 
@@ -310,10 +310,10 @@ static void is_waited_for(void) {
     struct lane *lane = kept();
     uint64_t began = now();
     lane->front.state = 2 * USER | HELD;
-    CHECK(lane_for_path(of, me) == lane && me->own == NULL && now() - began >= ENTER_US / 2 && me->kept == 0 && lane->uses[1] == RESTS && is(lane, 3 * USER | HELD));
+    CHECK(lane_for_path(of, me) == lane && me->own == NULL && now() - began >= ENTER_US / 2 && me->kept == 0 && lane->front.uses[1] == RESTS && is(lane, 3 * USER | HELD));
 }
 
-/* At the thread's end, and for a record that is in no path and finds something to do, it is given back. */
+/* At the thread's end, and where others ended its paths, it is given back. */
 static void given_back(void) {
     struct lane *lane = kept();
     lanes_give_up(me);
@@ -323,9 +323,6 @@ static void given_back(void) {
     lanes_give_up(me);
     CHECK(is(lane, USER) && is_not_kept(lane) && me->own == NULL);
     lane = kept();
-    lane->front.state |= IDLE;
-    CHECK(lane_for_record(of, me) == lane && is(lane, IDLE) && is_not_kept(lane) && me->own == NULL);
-    lane = kept();
     CHECK(lane_claim_last(me, lane));
     me->open = 1;
     lane->handed = 1;
@@ -334,6 +331,78 @@ static void given_back(void) {
     lane = kept();
     dspec_here.hands_on = 1;
     CHECK(lane_claim_last(me, lane));
+}
+
+/* ---- Records that are in no path, on a lane that is kept. ---- */
+
+/* The call is made without a change of the lane's state. Whoever wants the lane has it told that its thread isn't there. */
+static void enters_kept(void) {
+    static const uint32_t others[] = { HELD, GONE, SERVE, IDLE, SHARED, WANTED, USER };
+    struct lane *lane = kept();
+    CHECK(dspec_tracer_enter_kept_(&lane->front, me->kept) && lane->front.inside == 1 && lane->front.uses[1] == IN_USE && is(lane, FIRST_FLAG + 2 * USER));
+    dspec_tracer_leave_kept_(&lane->front, me->kept);
+    CHECK(is_at_rest(lane) && lane->front.inside == 0 && barriers == 0);
+    for (size_t i = 0; i < sizeof others / sizeof others[0]; i++) {
+        lane = kept();
+        lane->front.state += others[i];
+        CHECK(!dspec_tracer_enter_kept_(&lane->front, me->kept) && lane->front.inside == 0 && lane->front.uses[1] == RESTS && is(lane, FIRST_FLAG + 2 * USER + others[i]));
+    }
+    lane = kept();
+    lane->front.state = 2 * USER; /* another thread has taken it over, and is in a call */
+    lane->front.inside = 1;
+    CHECK(!dspec_tracer_enter_kept_(&lane->front, me->kept) && lane->front.inside == 1 && lane->front.uses[1] == RESTS);
+}
+
+/* What the consumer has to do on a kept lane leaves it the thread's; where another thread is on it, it isn't. */
+static void record_on_kept(void) {
+    static const uint32_t bits[] = { 0, HELD, SERVE, IDLE, WANTED, GONE }, others[] = { SHARED, USER };
+    struct lane *lane;
+    bool as_path;
+    for (size_t i = 0; i < sizeof bits / sizeof bits[0]; i++) {
+        lane = kept();
+        lane->front.state |= bits[i];
+        CHECK(lane_for_record(of, me, &as_path) == lane && as_path && me->own == &lane->front && me->open == 1 && lane->front.uses[1] == IN_USE);
+        lane_path_off(me, lane, true);
+        CHECK(is(lane, (FIRST_FLAG + 2 * USER) | bits[i]) && lane->front.uses[1] == RESTS && me->kept != 0 && me->own == NULL && me->plain == me->run && barriers == 0);
+    }
+    for (size_t i = 0; i < sizeof others / sizeof others[0]; i++) {
+        lane = kept();
+        lane->front.state += others[i];
+        CHECK(lane_for_record(of, me, &as_path) == lane && !as_path && is(lane, others[i]) && is_not_kept(lane) && me->own == NULL && me->open == 0);
+    }
+    lane = kept();
+    CHECK(lane_claim_last(me, lane));
+    me->open = 1;
+    CHECK(lane_for_record(of, me, &as_path) == lane && !as_path && me->open == 1); /* it is in use, for a path */
+}
+
+/* A record that finds no lane free takes one over that another thread keeps and doesn't use, and leaves it free. */
+static void record_takes_over(void) {
+    struct lane *lane = kept();
+    bool as_path;
+    me->kept = 0;
+    CHECK(lane_for_record(of, me, &as_path) == lane && as_path && me->own == &lane->front && me->open == 1 && is(lane, 2 * USER) && barriers == 1);
+    lane_path_off(me, lane, true);
+    CHECK(is(lane, 0) && me->own == NULL && me->plain == me->run && me->open == 0 && lane->front.uses[1] == RESTS);
+    lane = kept();
+    me->kept = 0;
+    lane->front.uses[1] = IN_USE;
+    CHECK(lane_for_record(of, me, &as_path) == lane && !as_path && me->own == NULL && is(lane, FIRST_FLAG + 2 * USER));
+}
+
+/* After so many records in a row a thread keeps a lane that nobody is on, as after paths. */
+static void keeps_after_records(void) {
+    struct lane *lane;
+    begin();
+    lane = fresh(0, 0);
+    lane->handed = 3; /* of the thread whose own it was before */
+    for (int i = 1; i < PATHS_BEFORE; i++) CHECK(!lane_keeps(me, lane, 0));
+    CHECK(is(lane, 0) && is_not_kept(lane));
+    CHECK(lane_keeps(me, lane, 0) && is_at_rest(lane) && lane->handed == 0);
+    begin();
+    lane = fresh(0, SERVE);
+    for (int i = 1; i <= PATHS_BEFORE; i++) CHECK(!lane_keeps(me, lane, 0));
+    CHECK(is(lane, SERVE) && is_not_kept(lane));
 }
 
 /* The end of a path that the consumer ended: it is answered what came of that, and the lane is let go. Of two in the list the other one stays. */
@@ -357,18 +426,19 @@ static void ended_before(void) {
 }
 
 static void for_record(void) {
+    bool as_path = true;
     begin();
     fresh(0, USER);
     fresh(1, WANTED);
-    CHECK(lane_for_record(of, me) == &of->lanes[2] && me->last == &of->lanes[2].front && me->own == NULL);
+    CHECK(lane_for_record(of, me, &as_path) == &of->lanes[2] && me->last == &of->lanes[2].front && me->own == NULL && !as_path);
     fresh(2, HELD);
     me->last = &of->lanes[1].front;
-    CHECK(lane_for_record(of, me) == &of->lanes[1]);
+    CHECK(lane_for_record(of, me, &as_path) == &of->lanes[1] && !as_path);
     me->own = &of->lanes[0].front;
-    CHECK(lane_for_record(of, me) == &of->lanes[0]);
+    CHECK(lane_for_record(of, me, &as_path) == &of->lanes[0] && !as_path && me->open == 0);
     begin();
     of->by_thread = true;
-    CHECK(lane_for_record(of, me) == &of->lanes[0] && me->own == &of->lanes[0].front && is(&of->lanes[0], USER | IDLE));
+    CHECK(lane_for_record(of, me, &as_path) == &of->lanes[0] && me->own == &of->lanes[0].front && is(&of->lanes[0], USER | IDLE) && !as_path && me->open == 0);
 }
 
 /* ---- The consumer. ---- */
@@ -597,6 +667,99 @@ static void *owes(void *unused) {
     return unused;
 }
 
+/* ---- Full buffers. ---- */
+
+enum { FULL_SIZE = 4096 };
+/* Rounds come where somebody rings. A keep waits where the consumer is slow to ask for the next buffer. */
+static const dspec_tracer_options full_options = { .lanes = 1, .paths = 2, .specsize = 128, .bufsize = FULL_SIZE, .period_ms = 1000000, .keep_ms = 20000, .no_crash = true, .no_term = true };
+
+static bool is_given_back(const struct lane *lane, uint64_t batches) {
+    enum { MOST_WAITS = 20000 };
+    for (int waits = 0; waits < MOST_WAITS; waits++) {
+        if (__atomic_load_n(&lane->bringing, __ATOMIC_ACQUIRE) == NOT_OUT && LOAD(&lane->given) == batches) return true;
+        usleep(1000);
+    }
+    return false;
+}
+
+/* Keeps paths until so many buffers were switched out: whether each was kept. */
+static bool fills(dspec_tracer *tracer, uint64_t batches) {
+    bool is_kept = true;
+    while (is_kept && LOAD(&tracer->body->lanes[0].switched) < batches) {
+        dspec_path path = dspec_path_begin(tracer);
+        is_kept = query_in(&path, 1) == DSPEC_OK && dspec_path_keep(&path);
+    }
+    return is_kept;
+}
+
+/* Each full buffer is written and asked for again, without a round: so a path finds room as often as it is. */
+static void *full_again_and_again(void *unused) {
+    enum { ROUNDS = 5 };
+    char folder[] = "/tmp/dspec-full-XXXXXX", words[80];
+    dspec_tracer_report report;
+    static dspec_tracer tracer;
+    if (!CHECK(mkdtemp(folder) != NULL) || !CHECK(dspec_tracer_start(&tracer, folder, &full_options, DSPEC_PROBES(query)))) return unused;
+    struct lane *lane = &tracer.body->lanes[0];
+    const uint64_t before = LOAD(&lane->given);
+    bool is_well = true;
+    for (uint64_t round = 1; is_well && round <= ROUNDS; round++) is_well = CHECK(fills(&tracer, before + round) && is_given_back(lane, before + round) && !LOAD(&lane->is_full));
+    CHECK(dspec_tracer_stop(&tracer, &report) && report.lost == 0 && report.accepted == report.kept);
+    dspec_tracer_drop(&tracer);
+    snprintf(words, sizeof words, "rm -rf '%s'", folder);
+    CHECK(system(words) == 0);
+    return unused;
+}
+
+/* While a full buffer is out a service switches nothing: a round asks for it still, and writes both buffers. */
+static void *asked_while_full(void *unused) {
+    char folder[] = "/tmp/dspec-full-XXXXXX", words[80];
+    dspec_tracer_report report;
+    static dspec_tracer tracer;
+    if (checks_failed > 0) return unused; /* what waits for the consumer would wait in vain once more */
+    if (!CHECK(mkdtemp(folder) != NULL) || !CHECK(dspec_tracer_start(&tracer, folder, &full_options, DSPEC_PROBES(query)))) return unused;
+    struct lane *lane = &tracer.body->lanes[0];
+    const uint64_t before = LOAD(&lane->given);
+    STORE(&tracer.body->quiet_until, UINT64_MAX); /* until this is over the consumer writes nothing */
+    CHECK(fills(&tracer, before + 1) && LOAD(&lane->given) == before && LOAD(&lane->is_full));
+    state_set(lane, SERVE);
+    dspec_path path = dspec_path_begin(&tracer);
+    CHECK(query_in(&path, 1) == DSPEC_OK && dspec_path_drop(&path) && state_of(lane) & SERVE && LOAD(&lane->switched) == before + 1);
+    STORE(&lane->is_full, 0); /* as where the consumer's round comes before its thread has told it */
+    STORE(&tracer.body->quiet_until, 0);
+    consumer_wakes(tracer.body);
+    CHECK(is_given_back(lane, before + 2) && LOAD(&lane->switched) == before + 2);
+    CHECK(dspec_tracer_stop(&tracer, &report) && report.lost == 0 && report.accepted == report.kept);
+    dspec_tracer_drop(&tracer);
+    snprintf(words, sizeof words, "rm -rf '%s'", folder);
+    CHECK(system(words) == 0);
+    return unused;
+}
+
+/* A service that puts a path's event into the next buffer isn't all that a round asked for: that writes this buffer too. */
+static void *asked_while_owing(void *unused) {
+    char folder[] = "/tmp/dspec-full-XXXXXX", words[80];
+    dspec_tracer_report report;
+    static dspec_tracer tracer;
+    if (checks_failed > 0) return unused; /* what waits for the consumer would wait in vain once more */
+    if (!CHECK(mkdtemp(folder) != NULL) || !CHECK(dspec_tracer_start(&tracer, folder, &full_options, DSPEC_PROBES(query)))) return unused;
+    struct lane *lane = &tracer.body->lanes[0];
+    const uint64_t before = LOAD(&lane->given);
+    dspec_path path = dspec_path_begin(&tracer);
+    CHECK(query_in(&path, 1) == DSPEC_OK);
+    lane->owes = OWES_EVENT;
+    lane->owed_at = dspec_tracer_now();
+    lane->owed[0] = UINT64_C(7) << 32;
+    state_set(lane, SERVE);
+    CHECK(dspec_path_drop(&path) && lane->owes == OWES_NOTHING && LOAD(&lane->switched) == before + 1 && state_of(lane) & SERVE);
+    consumer_wakes(tracer.body);
+    CHECK(is_given_back(lane, before + 2) && !(state_of(lane) & SERVE));
+    CHECK(dspec_tracer_stop(&tracer, &report) && report.lost == 0 && report.thrown == 1);
+    dspec_tracer_drop(&tracer);
+    snprintf(words, sizeof words, "rm -rf '%s'", folder);
+    CHECK(system(words) == 0);
+    return unused;
+}
+
 /* ---- Paths that begin and end at once. ---- */
 
 /* Whether the consumer sleeps until somebody stirs it: a flush is served in the middle of a turn, whose round asks lanes that aren't idle for a service. */
@@ -624,12 +787,25 @@ static bool has_none(const dspec_tracer_seat *mine, const struct lane *lane) {
 static void begins_and_ends(dspec_tracer *tracer, dspec_tracer_seat *mine, uint32_t state) {
     struct lane *lane = quiet(tracer, mine, state);
     dspec_path path = dspec_path_begin(tracer), second = dspec_path_begin(tracer);
-    CHECK(query_in(&path, 1) == DSPEC_OK && path.lane == &lane->front && path.own && path.token == dspec_tracer_token_6);
+    CHECK(query_in(&path, 1) == DSPEC_OK && path.lane == &lane->front && path.own && path.token == dspec_tracer_token_7);
     CHECK(mine->own == &lane->front && mine->open == 1 && mine->plain == DSPEC_TRACER_NONE_ && !mine->busy && lane->front.inside == 0 && is(lane, 2 * USER | (state & SERVE)));
     CHECK(query_in(&second, 1) == DSPEC_OK && second.lane == &lane->front && mine->open == 2 && is(lane, 3 * USER | (state & SERVE)));
     CHECK(dspec_path_drop(&path) && path.over && path.token == 0 && mine->own == &lane->front && mine->open == 1 && !mine->busy && lane->front.inside == 0 && is(lane, 2 * USER));
     CHECK(dspec_path_keep(&second) && second.over && has_none(mine, lane));
     CHECK(!dspec_path_drop(&path) && !dspec_path_keep(&path) && query_in(&path, 1) == DSPEC_VOID && has_none(mine, lane));
+}
+
+/* A path that the consumer ended is over for its thread too, and isn't thrown away a second time. */
+static void throws_away_what_is_over(dspec_tracer *tracer, dspec_tracer_seat *mine) {
+    struct lane *lane = quiet(tracer, mine, 0);
+    const uint64_t thrown = lane->thrown;
+    dspec_path path = dspec_path_begin(tracer);
+    CHECK(query_in(&path, 1) == DSPEC_OK && path.token == dspec_tracer_token_7);
+    lane->ended[0] = (ended_path){ .mark = path.mark, .token = path.token, .own = true, .is_kept = false };
+    lane->ended_count = 1;
+    CHECK(dspec_paths_discard(&lane->paths, &lane->front.cpu, path.place, path.id) == DSPEC_OK);
+    place_clear(&lane->open[path.place]);
+    CHECK(!dspec_path_drop(&path) && path.over && lane->ended_count == 0 && lane->thrown == thrown && has_none(mine, lane));
 }
 
 /* A thread that hands its paths on takes none for its own; in the middle of the tracer a path neither begins nor ends; and a path whose lane isn't its thread's own ends by the lock. */
@@ -688,6 +864,81 @@ static void *idle_lane_goes(void *unused) {
     return unused;
 }
 
+enum { TURNS = 200 };
+
+/* Records in no path, and one path among them, by another thread. */
+static void *records_too(void *of_tracer) {
+    for (uint64_t i = 0; i < TURNS; i++) CHECK(query_now(of_tracer, i) == DSPEC_OK);
+    takes_a_path(of_tracer);
+    return NULL;
+}
+
+/* Whether the thread's lane is at rest, and the thread keeps it. */
+static bool rests(const dspec_tracer_seat *mine, struct lane *lane) {
+    return mine->kept != 0 && mine->last == &lane->front && is(lane, mine->kept) && *dspec_tracer_flag_(&lane->front, mine->kept) == RESTS && lane->front.inside == 0 && mine->own == NULL &&
+           mine->plain == mine->run && mine->open == 0 && !mine->busy;
+}
+
+/* A thread that makes records in no path keeps its lane, also where the consumer has something to do there. Another one takes it over, and each record is in the trace once. */
+static void *records_keep_a_lane(void *unused) {
+    const dspec_tracer_options options = { .lanes = 1, .paths = PATHS, .no_crash = true, .no_term = true, .period_ms = 1000000 };
+    dspec_tracer tracer = { 0 };
+    dspec_tracer_report report;
+    char folder[] = "/tmp/dspec-inside-XXXXXX", words[64];
+    uint64_t made = 0;
+    pthread_t thread;
+    if (!CHECK(mkdtemp(folder) != NULL) || !CHECK(dspec_tracer_start(&tracer, folder, &options, DSPEC_PROBES(query)))) return unused;
+    dspec_tracer_seat *mine = &dspec_seats[tracer.body->slot];
+    struct lane *lane = &tracer.body->lanes[0];
+    CHECK(sleeps(tracer.body) && query_now(&tracer, made++) == DSPEC_OK); /* it wakes the consumer, and isn't one of those that are counted */
+    for (int why = 0; why < 2; why++) {
+        for (int i = 0; i < PATHS_BEFORE - 1; i++) CHECK(query_now(&tracer, made++) == DSPEC_OK);
+        CHECK(mine->kept == 0 && is(lane, 0));
+        if (why == 0) dspec_here.hands_on = 1; /* such a thread keeps none */
+        CHECK(query_now(&tracer, made++) == DSPEC_OK);
+        if (why == 0) CHECK(mine->kept == 0), dspec_here.hands_on = 0, lane->in_a_row = 0;
+    }
+    CHECK(rests(mine, lane));
+    for (int i = 0; i < TURNS; i++) CHECK(query_now(&tracer, made++) == DSPEC_OK && rests(mine, lane));
+    state_set(lane, SERVE);
+    CHECK(query_now(&tracer, made++) == DSPEC_OK && rests(mine, lane));
+    CHECK(dspec_tracer_flush(&tracer, 60000) && sleeps(tracer.body) && state_of(lane) & IDLE && LOAD(&tracer.body->asleep) == 1);
+    CHECK(query_now(&tracer, made++) == DSPEC_OK && LOAD(&tracer.body->asleep) == 0 && rests(mine, lane));
+    takes_a_path(&tracer);
+    CHECK(rests(mine, lane));
+    if (CHECK(pthread_create(&thread, NULL, records_too, &tracer) == 0)) pthread_join(thread, NULL);
+    CHECK(query_now(&tracer, made++) == DSPEC_OK && mine->kept == 0 && mine->own == NULL && mine->open == 0);
+    for (int i = 0; i < TURNS; i++) CHECK(query_now(&tracer, made++) == DSPEC_OK);
+    CHECK(rests(mine, lane));
+    CHECK(dspec_tracer_stop(&tracer, &report) && report.kept == 2 && report.no_slot == 0 && report.waited == 0 && report.nested == 0 && report.accepted == made + TURNS + 2);
+    CHECK(query_now(&tracer, made) == DSPEC_STOPPED && *dspec_tracer_flag_(&lane->front, mine->kept) == RESTS && lane->front.inside == 0);
+    dspec_tracer_drop(&tracer);
+    snprintf(words, sizeof words, "rm -rf '%s'", folder);
+    CHECK(system(words) == 0);
+    return unused;
+}
+
+/* One that finds its buffer full on such a lane goes into the other one, and is dropped where that is full too. */
+static void *record_fills_a_kept_lane(void *unused) {
+    enum { MOST_RECORDS = 4 * FULL_SIZE };
+    dspec_tracer tracer = { 0 };
+    char folder[] = "/tmp/dspec-full-XXXXXX", words[80];
+    dspec_tracer_report report;
+    uint64_t made = 0;
+    if (!CHECK(mkdtemp(folder) != NULL) || !CHECK(dspec_tracer_start(&tracer, folder, &full_options, DSPEC_PROBES(query)))) return unused;
+    const dspec_tracer_seat *mine = &dspec_seats[tracer.body->slot];
+    struct lane *lane = &tracer.body->lanes[0];
+    const uint64_t before = LOAD(&lane->switched);
+    STORE(&tracer.body->quiet_until, UINT64_MAX); /* until this is over the consumer writes nothing */
+    while (made < MOST_RECORDS && query_now(&tracer, made) == DSPEC_OK) made++;
+    CHECK(made > PATHS_BEFORE && made < MOST_RECORDS && made % 2 == 0 && rests(mine, lane) && LOAD(&tracer.body->no_room) == 1 && LOAD(&lane->switched) == before + 1);
+    CHECK(dspec_tracer_stop(&tracer, &report) && report.accepted == made && report.dropped == 1);
+    dspec_tracer_drop(&tracer);
+    snprintf(words, sizeof words, "rm -rf '%s'", folder);
+    CHECK(system(words) == 0);
+    return unused;
+}
+
 static void *at_once(void *unused) {
     const dspec_tracer_options options = { .lanes = LANES, .no_crash = true, .no_term = true, .period_ms = 1000000 };
     static const uint32_t states[] = { 0, IDLE, SHARED, SERVE };
@@ -698,9 +949,10 @@ static void *at_once(void *unused) {
     dspec_tracer_seat *mine = &dspec_seats[tracer.body->slot];
     CHECK(query_now(&tracer, 1) == DSPEC_OK);
     for (size_t i = 0; i < sizeof states / sizeof states[0]; i++) begins_and_ends(&tracer, mine, states[i]);
+    throws_away_what_is_over(&tracer, mine);
     neither_begins_nor_ends(&tracer, mine);
     CHECK(dspec_tracer_stop(&tracer, &report));
-    CHECK(report.kept == 4 && report.thrown == 6 && report.nested == 2 && report.no_slot == 0 && report.accepted == 5);
+    CHECK(report.kept == 4 && report.thrown == 7 && report.nested == 2 && report.no_slot == 0 && report.accepted == 5);
     dspec_tracer_drop(&tracer);
     snprintf(words, sizeof words, "rm -rf '%s'", folder);
     CHECK(system(words) == 0);
@@ -725,6 +977,10 @@ int main(void) {
     stays_in_use();
     is_waited_for();
     given_back();
+    enters_kept();
+    record_on_kept();
+    record_takes_over();
+    keeps_after_records();
     ended_before();
     for_record();
     taken();
@@ -735,8 +991,14 @@ int main(void) {
     seats();
     if (CHECK(pthread_create(&thread, NULL, numbers, NULL) == 0)) pthread_join(thread, NULL);
     if (CHECK(pthread_create(&thread, NULL, owes, NULL) == 0)) pthread_join(thread, NULL);
+    if (CHECK(pthread_create(&thread, NULL, full_again_and_again, NULL) == 0)) pthread_join(thread, NULL);
+    if (CHECK(pthread_create(&thread, NULL, asked_while_full, NULL) == 0)) pthread_join(thread, NULL);
+    if (CHECK(pthread_create(&thread, NULL, asked_while_owing, NULL) == 0)) pthread_join(thread, NULL);
+    if (checks_failed > 0) return check_end(); /* what comes now would wait for a consumer that doesn't come */
     if (CHECK(pthread_create(&thread, NULL, at_once, NULL) == 0)) pthread_join(thread, NULL);
     if (CHECK(pthread_create(&thread, NULL, idle_lane_goes, NULL) == 0)) pthread_join(thread, NULL);
+    if (CHECK(pthread_create(&thread, NULL, records_keep_a_lane, NULL) == 0)) pthread_join(thread, NULL);
+    if (CHECK(pthread_create(&thread, NULL, record_fills_a_kept_lane, NULL) == 0)) pthread_join(thread, NULL);
     if (CHECK(pthread_create(&thread, NULL, has_stack, NULL) == 0)) pthread_join(thread, NULL);
     free(of);
     return check_end();

@@ -129,7 +129,7 @@ static void closed_drop(void) { dspec_closed_drop(&closed); }
 static void schema_drop(void) { dspec_schema_drop(&all.schema); }
 
 /* A trace: a schema with stamps, and a batch of two records, of 12 bytes, a gap of 4 and 64 bytes, of which the second's stamp is before the first's. */
-static dspec_ctf ctf;
+static dspec_ctf ctf, other_ctf;
 static uint8_t room[1 << 18];
 static uint8_t records[2 * 80] = { [0] = 1, [4] = 2, [80] = 1, [84] = 1 };
 static const dspec_identity identity = { .uuid = { 1 }, .hertz = 1000, .host = { "here", 4 }, .name = { "c_stack", 7 } };
@@ -145,6 +145,14 @@ static void ctf_metadata(void) {
 static void ctf_new(void) { HAS_TO(dspec_ctf_new(&all.schema, &identity, 0, &ctf)); }
 
 static void ctf_reserve(void) { HAS_TO(dspec_ctf_reserve(&ctf, sizeof records)); }
+
+/* Exchanged with the room of files that are there for this alone. */
+static void ctf_swap_rooms(void) {
+    HAS_TO(dspec_ctf_new(&all.schema, &identity, 1, &other_ctf));
+    HAS_TO(dspec_ctf_swap_rooms(&ctf, &other_ctf));
+    HAS_TO(dspec_ctf_swap_rooms(&ctf, &other_ctf));
+    dspec_ctf_drop(&other_ctf);
+}
 
 static void ctf_open(void) { HAS_TO(dspec_ctf_open(&ctf, 0, 3, records, sizeof records)); }
 
@@ -188,7 +196,7 @@ static const struct step {
     { "dspec_close", close_all, MOST },                   { "dspec_closed_drop", closed_drop, MOST_OF_OTHERS },
     { "dspec_schema_stamp", schema_stamp, MOST_OF_OTHERS }, { "dspec_ctf_metadata", ctf_metadata, MOST_OF_OTHERS },
     { "dspec_ctf_new", ctf_new, MOST_OF_OTHERS },           { "dspec_ctf_reserve", ctf_reserve, MOST_OF_OTHERS },
-    { "dspec_ctf_open", ctf_open, MOST_OF_OTHERS },
+    { "dspec_ctf_swap_rooms", ctf_swap_rooms, MOST_OF_OTHERS }, { "dspec_ctf_open", ctf_open, MOST_OF_OTHERS },
     { "dspec_ctf_put", ctf_put, MOST_OF_OTHERS },           { "dspec_ctf_lose", ctf_lose, MOST_OF_OTHERS },
     { "dspec_ctf_miss", ctf_miss, MOST_OF_OTHERS },         { "dspec_ctf_drop", ctf_drop, MOST_OF_OTHERS },
     { "dspec_schema_drop", schema_drop, MOST_OF_OTHERS },

@@ -1,5 +1,5 @@
 /* A tracer that is killed after each instruction: of its calls, `stepped FOLDER SNAP OUT EACH`, and of its consumer's thread, as it writes what there is, `stepped FOLDER SNAP OUT EACH
- * consumer`; as it can't, since the disk is full, `full`; as it can again, `room`; as it keeps parked paths by their keys, `parked`; and as it finds no room for these, and room later, `parked_full`. The linker's --wrap leads what keeps room on the disk through here, and the consumer's own records. After each EACH-th instruction the memory's file is copied to SNAP, as a kill would leave it, and read by `stepped judge SNAP OUT ..`, a process of its own. What was answered has
+ * consumer`; as it can't, since the disk is full, `full`; as it can again, `room`; as it keeps parked paths by their keys, `parked`; and as it finds no room for these, and room later, `parked_full`; and of calls that find their buffer full and begin the other one, and then of the consumer, `switched` by a record and `switched_keep` by a path that is kept. The linker's --wrap leads what keeps room on the disk through here, the consumer's own records, and what it gives back. After each EACH-th instruction the memory's file is copied to SNAP, as a kill would leave it, and read by `stepped judge SNAP OUT ..`, a process of its own. What was answered has
  * to be there or in the tracer's folder, what was thrown away nowhere, and what is being made may be there or not, as a whole. The last line counts what was judged. */
 #define _GNU_SOURCE
 #include "dspec_tracer.h"
@@ -25,21 +25,24 @@
 DSPEC_PROBE(query, uint64_t, request, uint32_t, step);
 DSPEC_PROBE(tick, uint64_t, number);
 
-enum { REQUESTS = 4, PARKED = 5, STEPS = 3, MOST = 64, PACKET = 1024, FILES = 8 };
+enum { REQUESTS = 4, PARKED = 5, STEPS = 3, MOST = 256, PACKET = 1024, FILES = 8 };
 
 /* What is known while a call is made: how many requests are decided, of which those with odd numbers were kept; how many records the one that is open has; how many ticks there are; and
- * what is being made: a round is the consumer's, in whose middle an open path may be out of reach, and so is a turn in which it keeps what is parked. */
-enum { NOTHING = 0, A_RECORD = 1, A_KEEP = 2, A_DROP = 3, A_TICK = 4, A_ROUND = 5, A_KEY = 6 };
+ * what is being made: a round is the consumer's, and so is a turn in which it keeps what is parked; a tick may begin the other buffer. In the middle of a service an open path may be out of reach. */
+enum { NOTHING = 0, A_RECORD = 1, A_KEEP = 2, A_DROP = 3, A_TICK = 4, A_ROUND = 5, A_KEY = 6, A_SWITCH = 7 };
 typedef struct known {
     uint64_t decided, records, ticks, making;
 } known;
 
 static known now;
-static bool *is_putting; /* the consumer makes a record of its own, in the middle of which each third instruction ends with a look: few of them are between its bytes and its count */
+static volatile known *other; /* the same of another process */
+/* The consumer is in a call that is looked at more often. Of a record of its own few instructions are between its bytes and its count; of a batch that it gives back one leaves the session a half of it. */
+enum { EACH_OF_A_PUT = 3, EACH_OF_A_BATCH = 1 };
+static uint32_t *looks_each;
 static char **names;
 static int memory;
 static uint64_t instructions, judged, wrong, lacking, each;
-enum { IS_LACKING = 9, EACH_OF_A_PUT = 3 };
+enum { IS_LACKING = 9 };
 static uint8_t copy[1 << 20];
 
 /* ---- The judge. ---- */
@@ -170,13 +173,13 @@ static int judge(const char *snap, const char *out, const known *is) {
     read_events(path, &open_paths);
     if (is->making == A_KEY) return judge_parked(&kept, &open_paths);
     if (!are_kept(&kept, &many) || many < due || many > due + (is->making == A_KEEP)) return say("kept", &kept);
-    if (kept.ticked < is->ticks || kept.ticked > is->ticks + (is->making == A_TICK)) return say("ticks", &kept);
+    if (kept.ticked < is->ticks || kept.ticked > is->ticks + (is->making == A_TICK || is->making == A_SWITCH)) return say("ticks", &kept);
     for (uint64_t i = 0; i < kept.ticked; i++)
         if (kept.ticks[i] != i) return say("which ticks", &kept);
     for (uint64_t i = 0; i < open_paths.count; i++)
         if (open_paths.requests[i] != is->decided + 1 || open_paths.steps[i] != i) return say("open", &open_paths);
     if (open_paths.count > is->records + (is->making == A_RECORD) || open_paths.ticked > 0) return say("too many open", &open_paths);
-    if (is->making == A_ROUND && open_paths.count == 0) return IS_LACKING;
+    if ((is->making == A_ROUND || is->making == A_SWITCH) && open_paths.count == 0) return IS_LACKING;
     if (is->making != A_KEEP && is->making != A_DROP && open_paths.count < is->records) return say("too few open", &open_paths);
     return 0;
 }
@@ -262,6 +265,7 @@ static void one_request(dspec_tracer *tracer, uint64_t number) {
     if (!is_well) _exit(6);
     now.records = 0;
     now.decided++;
+    one_tick(tracer);
 }
 
 static bool opens(const char *folder) {
@@ -271,8 +275,8 @@ static bool opens(const char *folder) {
     return memory >= 0;
 }
 
-static bool starts(dspec_tracer *tracer, const char *folder, uint64_t park_bytes) {
-    const dspec_tracer_options options = { .lanes = 1, .paths = 2, .bufsize = 4096, .specsize = 256, .period_ms = 1000000, .no_crash = true, .no_term = true, .survive = true,
+static bool starts(dspec_tracer *tracer, const char *folder, uint32_t bufsize, uint64_t park_bytes) {
+    const dspec_tracer_options options = { .lanes = 1, .paths = 2, .bufsize = bufsize, .specsize = 256, .period_ms = 1000000, .no_crash = true, .no_term = true, .survive = true,
                                            .park_bytes = park_bytes };
     if (!dspec_tracer_start(tracer, folder, &options, DSPEC_PROBES(query, tick))) {
         printf("%s\n", tracer->why);
@@ -288,8 +292,8 @@ static int end(void) {
 
 /* ---- The consumer. ---- */
 
-/* A disk that is full. */
-static bool is_full;
+/* A disk that is full; and whether what is given back is looked at closely. */
+static bool is_full, gives_closely;
 int __real_fallocate(int file, int mode, off_t from, off_t length);
 int __wrap_fallocate(int file, int mode, off_t from, off_t length);
 
@@ -299,15 +303,32 @@ int __wrap_fallocate(int file, int mode, off_t from, off_t length) {
     return -1;
 }
 
+static void look_each(uint32_t often) {
+    if (looks_each != NULL) *(volatile uint32_t *)looks_each = often;
+}
+
 dspec_status __real_dspec_put(dspec_cpu *cpu, uint64_t claim, uint64_t stamp, const uint64_t *words, size_t n);
 dspec_status __wrap_dspec_put(dspec_cpu *cpu, uint64_t claim, uint64_t stamp, const uint64_t *words, size_t n);
 
 dspec_status __wrap_dspec_put(dspec_cpu *cpu, uint64_t claim, uint64_t stamp, const uint64_t *words, size_t n) {
     dspec_status status;
-    if (is_putting == NULL) return __real_dspec_put(cpu, claim, stamp, words, n);
-    *(volatile bool *)is_putting = true;
+    look_each(EACH_OF_A_PUT);
     status = __real_dspec_put(cpu, claim, stamp, words, n);
-    *(volatile bool *)is_putting = false;
+    look_each(0);
+    return status;
+}
+
+dspec_status __real_dspec_give_back(dspec_consumer *consumer, uint32_t cpu);
+dspec_status __wrap_dspec_give_back(dspec_consumer *consumer, uint32_t cpu);
+
+/* The lane that starts first is the program's, with the open path. */
+dspec_status __wrap_dspec_give_back(dspec_consumer *consumer, uint32_t cpu) {
+    static const dspec_consumer *programs;
+    dspec_status status;
+    if (programs == NULL) programs = consumer;
+    if (gives_closely && consumer == programs) look_each(EACH_OF_A_BATCH);
+    status = __real_dspec_give_back(consumer, cpu);
+    look_each(0);
     return status;
 }
 
@@ -344,10 +365,65 @@ static void play(dspec_tracer *tracer, const char *how, int to, int from) {
         if (number % 2 == 1 ? !dspec_path_keep(&path) : !dspec_path_drop(&path)) _exit(6);
         tick_now(tracer, number - 1);
     }
-    if (strcmp(how, "consumer") != 0 && !waits_for_disk(tracer)) _exit(6);
+    gives_closely = strcmp(how, "consumer") == 0;
+    if (!gives_closely && !waits_for_disk(tracer)) _exit(6);
     if (write(to, &word, 1) != 1 || read(from, &word, 1) != 1) _exit(6);
     is_full = strcmp(how, "full") == 0;
     if (dspec_tracer_flush(tracer, 3600000) == is_full || write(to, &word, 1) != 1) _exit(6);
+    pause();
+}
+
+/* Ticks until two had no room: how many there were. */
+static void fill(dspec_tracer *tracer) {
+    for (int refused = 0; refused < 2;) {
+        other->making = A_SWITCH;
+        if (tick_now(tracer, other->ticks) == DSPEC_OK) other->ticks++;
+        else refused++;
+        other->making = NOTHING;
+    }
+}
+
+/* A request with so many records. */
+static dspec_path begun(dspec_tracer *tracer, uint64_t number, uint32_t records) {
+    dspec_path path = dspec_path_begin(tracer);
+    for (uint32_t at = 0; at < records; at++) {
+        other->making = A_RECORD;
+        query_in(&path, number, at);
+        other->records++;
+        other->making = NOTHING;
+    }
+    return path;
+}
+
+/* Decides a request: with an odd number it is kept. */
+static void decide(dspec_path *path, uint64_t number) {
+    other->making = number % 2 == 1 ? A_KEEP : A_DROP;
+    if (number % 2 == 1 ? !dspec_path_keep(path) : !dspec_path_drop(path)) _exit(6);
+    other->records = 0;
+    other->decided++;
+    other->making = NOTHING;
+}
+
+/* Makes requests until one more that is kept finds no room, and says so. Once it is told to, it fills what is left, and the other buffer, which nobody writes meanwhile; begins one request more, and
+ * says so; and flushes once it is told to again. */
+static void play_switched(dspec_tracer *tracer, bool by_keep, int to, int from) {
+    uint64_t number = 1;
+    dspec_path path;
+    char word = 0;
+    for (; number <= REQUESTS; number++) {
+        path = begun(tracer, number, STEPS);
+        decide(&path, number);
+    }
+    path = begun(tracer, number, STEPS);
+    if (write(to, &word, 1) != 1 || read(from, &word, 1) != 1) _exit(6);
+    if (by_keep) {
+        decide(&path, number);
+        path = begun(tracer, number + 1, 2);
+    }
+    fill(tracer);
+    if (write(to, &word, 1) != 1 || read(from, &word, 1) != 1) _exit(6);
+    other->making = A_ROUND;
+    if (!dspec_tracer_flush(tracer, 3600000) || write(to, &word, 1) != 1) _exit(6);
     pause();
 }
 
@@ -385,18 +461,59 @@ static bool reads_clock(pid_t thread) {
 #endif
 }
 
+/* Memory that two processes have. */
+static void *shared(size_t size) {
+    void *at = mmap(NULL, size, PROT_READ | PROT_WRITE, MAP_SHARED | MAP_ANONYMOUS, -1, 0);
+    if (at == MAP_FAILED) _exit(4);
+    return at;
+}
+
+/* Stops a thread where it is: whether it did. */
+static bool stops(pid_t thread) {
+    int status = 0;
+    return ptrace(PTRACE_INTERRUPT, thread, 0, 0) == 0 && waitpid(thread, &status, __WALL) == thread;
+}
+
+/* Tells the process to go on, and looks after each instruction of a thread until it says that it has. */
+static bool steps_until_told(pid_t thread, int to, int from, bool asks) {
+    int status = 0, signal = 0;
+    char word = 0;
+    if (write(to, &word, 1) != 1) return false;
+    while (has_stepped(thread, signal, from, &status)) {
+        const uint64_t closer = *(volatile uint32_t *)looks_each, often = closer > 0 && closer < each ? closer : each;
+        signal = WSTOPSIG(status) == SIGTRAP ? 0 : WSTOPSIG(status);
+        instructions++;
+        if (asks) now = *(known *)other;
+        if (instructions % often == 0 && !reads_clock(thread)) look();
+    }
+    return judged > 0;
+}
+
+/* The calls of a thread while the consumer stands still, and then the consumer. */
+static bool steps_both(pid_t child, pid_t consumer, int to, int from) {
+    char word = 0;
+    if (ptrace(PTRACE_SEIZE, child, 0, 0) != 0 || !stops(child) || !steps_until_told(child, to, from, true)) return false;
+    if (read(from, &word, 1) != 1 || !stops(child) || ptrace(PTRACE_DETACH, child, 0, 0) != 0) return false;
+    now = *(known *)other;
+    now.making = A_ROUND;
+    return steps_until_told(consumer, to, from, false);
+}
+
 static int step_the_consumer(const char *folder, const char *how) {
     static dspec_tracer tracer;
-    const bool parks = strncmp(how, "parked", 6) == 0;
-    int to[2], from[2], status = 0, signal = 0;
+    const bool parks = strncmp(how, "parked", 6) == 0, switches = strncmp(how, "switched", 8) == 0;
+    int to[2], from[2], status = 0;
+    bool is_done;
     pid_t child, thread;
     char word = 0;
-    is_putting = mmap(NULL, sizeof *is_putting, PROT_READ | PROT_WRITE, MAP_SHARED | MAP_ANONYMOUS, -1, 0);
-    if (is_putting == MAP_FAILED || pipe(to) != 0 || pipe(from) != 0) return 4;
+    looks_each = shared(sizeof *looks_each);
+    other = shared(sizeof *other);
+    if (pipe(to) != 0 || pipe(from) != 0) return 4;
     child = fork();
     if (child == 0) {
-        if (!starts(&tracer, folder, parks ? 4096 : 0)) _exit(3);
-        if (parks) play_parked(&tracer, strcmp(how, "parked_full") == 0, from[1], to[0]);
+        if (!starts(&tracer, folder, switches ? 512 : 4096, parks ? 4096 : 0)) _exit(3);
+        if (switches) play_switched(&tracer, strcmp(how, "switched_keep") == 0, from[1], to[0]);
+        else if (parks) play_parked(&tracer, strcmp(how, "parked_full") == 0, from[1], to[0]);
         else play(&tracer, how, from[1], to[0]);
         _exit(3);
     }
@@ -404,17 +521,11 @@ static int step_the_consumer(const char *folder, const char *how) {
     if (read(from[0], &word, 1) != 1) return 5;
     now = (known){ REQUESTS, 2, REQUESTS, parks ? A_KEY : A_ROUND };
     thread = other_thread(child);
-    if (!opens(folder) || thread == 0 || ptrace(PTRACE_SEIZE, thread, 0, 0) != 0 || ptrace(PTRACE_INTERRUPT, thread, 0, 0) != 0 || waitpid(thread, &status, __WALL) != thread) return 5;
-    if (write(to[1], &word, 1) != 1) return 5;
-    while (has_stepped(thread, signal, from[0], &status)) {
-        const uint64_t often = *(volatile bool *)is_putting && each > EACH_OF_A_PUT ? EACH_OF_A_PUT : each;
-        signal = WSTOPSIG(status) == SIGTRAP ? 0 : WSTOPSIG(status);
-        instructions++;
-        if (instructions % often == 0 && !reads_clock(thread)) look();
-    }
+    if (!opens(folder) || thread == 0 || ptrace(PTRACE_SEIZE, thread, 0, 0) != 0 || !stops(thread)) return 5;
+    is_done = switches ? steps_both(child, thread, to[1], from[0]) : steps_until_told(thread, to[1], from[0], false);
     kill(child, SIGKILL);
     while (waitpid(-1, &status, __WALL) > 0) {}
-    return judged == 0 ? 5 : end();
+    return is_done ? end() : 5;
 }
 
 int main(int count, char **words) {
@@ -428,7 +539,7 @@ int main(int count, char **words) {
     names = words;
     each = strtoull(words[4], NULL, 10);
     if (count == 6) return step_the_consumer(words[1], words[5]);
-    if (!starts(&tracer, words[1], 0)) return 3;
+    if (!starts(&tracer, words[1], 4096, 0)) return 3;
     sigaction(SIGTRAP, &trap, NULL);
     for (uint64_t number = 1; number <= REQUESTS; number++) {
         one_request(&tracer, number);

@@ -15,6 +15,8 @@
 #include <signal.h>
 #include <sys/mman.h>
 #include <sys/stat.h>
+#include <sys/syscall.h>
+#include <sys/wait.h>
 #include <unistd.h>
 
 DSPEC_PROBE(query, uint64_t, request, uint32_t, step);
@@ -27,8 +29,8 @@ static dspec_tracer_report report;
 static const char *folder;
 
 static void without_folder(void) {
-    char words[4300];
-    snprintf(words, sizeof words, "rm -rf '%.2000s' '%.2000s.two'", folder, folder);
+    char words[8300];
+    snprintf(words, sizeof words, "rm -rf '%.2000s' '%.2000s.two' '%.2000s.salvaged' '%.2000s-memory'", folder, folder, folder, folder);
     if (system(words) != 0) exit(2);
 }
 
@@ -214,6 +216,15 @@ static void thrown_after_all(void) {
 
 /* ---- The event of a path that has no room for it. ---- */
 
+/* While this is set the consumer waits in its next write to a file, and the buffer that it is writing isn't given back. */
+static uint32_t is_held;
+int fallocate(int file, int mode, off_t offset, off_t len) {
+    while (__atomic_load_n(&is_held, __ATOMIC_ACQUIRE)) usleep(100);
+    return (int)syscall(SYS_fallocate, file, mode, offset, len);
+}
+
+static void hold(bool holds) { __atomic_store_n(&is_held, holds, __ATOMIC_RELEASE); }
+
 /* The end of a tracer that had no room for so many records of the program, and kept so many paths: each has its event. others: those of the thread and of the counts; 0: nobody knows. */
 static void stop_full(uint64_t kept, uint64_t lost, uint64_t others) {
     CHECK(dspec_tracer_stop(&tracer, &report) && report.dropped == 0 && report.stuck_lanes == 0 && report.not_written == 0);
@@ -243,12 +254,16 @@ static void after_its_path(void) {
         CHECK(flushes_it == 0 || (dspec_tracer_counts(&tracer, &report) && report.accepted == 19 * 4));
         stop_full(19, 0, flushes_it == 1 ? 3 : 2);
     }
-    begin((dspec_tracer_options){ .lanes = 1, .paths = 2, .specsize = 64, .bufsize = 88 });
-    path = wide_path(1);
-    CHECK(dspec_path_keep(&path));
+    begin((dspec_tracer_options){ .lanes = 1, .paths = 2, .specsize = 64, .bufsize = 144 });
+    hold(true);
+    for (int i = 0; i < 3; i++) { /* the third begins the other buffer, after the event of the second */
+        path = wide_path(1);
+        CHECK(dspec_path_keep(&path));
+    }
     path = wide_path(1); /* its record has room, and its event would have none */
     CHECK(!dspec_path_keep(&path));
-    stop_full(1, 1, 2);
+    hold(false);
+    stop_full(3, 1, 2);
     begin((dspec_tracer_options){ .lanes = 1, .paths = 2, .specsize = 64, .bufsize = 88, .keep_ms = 60000 });
     for (int i = 0; i < 3; i++) {
         path = wide_path(1);
@@ -260,12 +275,20 @@ static void after_its_path(void) {
 /* A path of two parts, of which the second has no room after the first: what is kept has its event, at once or with the next buffer. */
 static void first_part(void) {
     static const uint32_t sizes[] = { 200, 168 };
+    enum { SHORT = 96 }; /* bytes of a path of one record */
     dspec_path path;
     for (int i = 0; i < 2; i++) {
-        begin((dspec_tracer_options){ .lanes = 1, .paths = 2, .specsize = 128, .bufsize = sizes[i], .keep_last = true });
+        const uint32_t bufsize = sizes[i] + SHORT, before = bufsize / SHORT + 1; /* of the paths before it the last one is in the other buffer */
+        begin((dspec_tracer_options){ .lanes = 1, .paths = 2, .specsize = 128, .bufsize = bufsize, .keep_last = true });
+        hold(true);
+        for (uint32_t k = 0; k < before; k++) {
+            path = wide_path(1);
+            CHECK(dspec_path_keep(&path));
+        }
         path = wide_path(4);
         CHECK(dspec_path_keep(&path));
-        CHECK(dspec_tracer_stop(&tracer, &report) && report.kept == 1 && report.own == 3 && report.accepted == 3 && report.lost == 1 && report.cut == 1 && report.dropped == 0);
+        hold(false);
+        CHECK(dspec_tracer_stop(&tracer, &report) && report.kept == before + 1 && report.own == before + 3 && report.accepted == before + 3 && report.lost == 1 && report.cut == 1 && report.dropped == 0);
         dspec_tracer_drop(&tracer);
         begin((dspec_tracer_options){ .lanes = 1, .paths = 2, .specsize = 128, .bufsize = sizes[i], .keep_last = true, .keep_ms = 60000 });
         path = wide_path(4);
@@ -275,6 +298,92 @@ static void first_part(void) {
         stop_full(2, 0, 0);
         CHECK(report.accepted == 8 && report.cut == 0);
     }
+}
+
+/* How many bytes a lane's file has. */
+static long long written(void) {
+    struct stat is = { 0 };
+    char path[4300];
+    snprintf(path, sizeof path, "%s/cpu_0_0", folder);
+    return stat(path, &is) == 0 ? (long long)is.st_size : -1;
+}
+
+/* A path that finds its buffer full goes into the other one, and the full one is written, though no round comes. Where the consumer hasn't written that, the next such path is lost. */
+static void full_buffer(void) {
+    enum { BUFFER = 4096, SHORT = 96, IN_A_BUFFER = BUFFER / SHORT, MOST_WAITS = 20000 };
+    for (int holds = 0; holds < 2; holds++) {
+        begin((dspec_tracer_options){ .lanes = 1, .paths = 2, .specsize = 128, .bufsize = BUFFER });
+        hold(holds == 1);
+        for (int i = 0; i <= IN_A_BUFFER; i++) {
+            dspec_path path = wide_path(1);
+            CHECK(dspec_path_keep(&path));
+        }
+        for (int waits = 0; holds == 0 && written() <= 0 && waits < MOST_WAITS; waits++) usleep(1000);
+        CHECK((written() > 0) == (holds == 0));
+        for (int i = 1; holds == 1 && i <= IN_A_BUFFER; i++) {
+            dspec_path path = wide_path(1);
+            CHECK(dspec_path_keep(&path) == (i < IN_A_BUFFER));
+        }
+        hold(false);
+        stop_full(holds == 1 ? 2 * IN_A_BUFFER : IN_A_BUFFER + 1, (uint64_t)holds, 2);
+    }
+}
+
+/* How many records the packets of a lane's file tell as missed. */
+static uint64_t missed_in(const char *file) {
+    enum { PACKET = 1024, DISCARDED = 56 };
+    uint8_t packet[PACKET];
+    uint64_t missed = 0;
+    const int at = open(file, O_RDONLY | O_CLOEXEC);
+    while (read(at, packet, sizeof packet) == (ssize_t)sizeof packet) memcpy(&missed, packet + DISCARDED, sizeof missed);
+    close(at);
+    return missed;
+}
+
+/* Records that are in no path, until both buffers are full: how many. */
+static uint64_t fill_both(void) {
+    uint64_t made = 0;
+    while (tick_now(&tracer, made) == DSPEC_OK) made++;
+    return made;
+}
+
+enum { OF_RECORDS = 4096, LEAST_RECORDS = 2 * (OF_RECORDS / 32), MORE = 3 };
+
+/* Of records that are in no path none is dropped while the other buffer has room. One that is dropped is told once, in the report and in the trace. */
+static void full_of_records(void) {
+    char file[4300];
+    for (int by_thread = 0; by_thread < 2; by_thread++) {
+        begin((dspec_tracer_options){ .lanes = 1, .paths = 2, .specsize = 128, .bufsize = OF_RECORDS, .by_thread = by_thread == 1 });
+        hold(true);
+        const uint64_t made = fill_both();
+        CHECK(made > LEAST_RECORDS && made % 2 == 0);
+        for (int i = 0; i < MORE; i++) CHECK(tick_now(&tracer, 0) == DSPEC_DROPPED);
+        hold(false);
+        CHECK(dspec_tracer_stop(&tracer, &report) && report.accepted == made && report.dropped == 1 + MORE && report.lost == 0 && report.waited == 0 && report.nested == 0);
+        dspec_tracer_drop(&tracer);
+        snprintf(file, sizeof file, "%s/cpu_0_0", folder);
+        CHECK(missed_in(file) == 1 + MORE);
+    }
+}
+
+/* The same of a program that is killed with one buffer out and the other one begun: its trace misses nothing. */
+static void killed_with_a_full_buffer(void) {
+    static dspec_salvaged told;
+    char memory[4300], out[4300], file[4400];
+    int status;
+    const pid_t child = fork();
+    if (child == 0) {
+        uint64_t made = 0;
+        begin((dspec_tracer_options){ .lanes = 1, .paths = 2, .specsize = 128, .bufsize = OF_RECORDS, .survive = true });
+        hold(true);
+        while (made < LEAST_RECORDS && tick_now(&tracer, made) == DSPEC_OK) made++;
+        raise(made == LEAST_RECORDS ? SIGKILL : SIGABRT);
+    }
+    CHECK(child > 0 && waitpid(child, &status, 0) == child && WIFSIGNALED(status) && WTERMSIG(status) == SIGKILL);
+    snprintf(memory, sizeof memory, "%s-memory", folder);
+    snprintf(out, sizeof out, "%s.salvaged", folder);
+    snprintf(file, sizeof file, "%s/kept/cpu_0_0", out);
+    CHECK(dspec_salvage(memory, out, &told) && told.unreadable == 0 && told.kept >= LEAST_RECORDS && missed_in(file) == 0);
 }
 
 /* ---- The rule. ---- */
@@ -638,6 +747,9 @@ int main(int argc, char **argv) {
     thrown_after_all();
     after_its_path();
     first_part();
+    full_buffer();
+    full_of_records();
+    killed_with_a_full_buffer();
     ruled();
     threads();
     places();

@@ -221,9 +221,10 @@ static void mode_half(void) {
     pthread_t keeper;
     begin((dspec_tracer_options){ .lanes = 1, .paths = 2, .bufsize = 512, .specsize = 256, .keep_last = true, .keep_ms = 600000, .period_ms = 1000000 });
     start_caller();
+    CHECK(tick_now(&tracer, 1) == DSPEC_OK && dspec_tracer_flush(&tracer, 60000)); /* the tracer has told of its threads, and has nothing else to write */
     writes_stand = true;
     CHECK(tick_now(&tracer, 1) == DSPEC_OK && !dspec_tracer_flush(&tracer, 1));
-    while (!is_writing) usleep(1000); /* one buffer is out now */
+    while (!is_writing) usleep(1000); /* one buffer of the lane is out now */
     for (uint64_t i = 0; i < 5; i++) CHECK(tick_now(&tracer, i) == DSPEC_OK);
     before = __atomic_load_n(&callers.lane->answered, __ATOMIC_RELAXED);
     pthread_create(&keeper, NULL, keeps_half, NULL);
@@ -419,15 +420,16 @@ static void mode_thread(void) {
 
 /* ---- A full disk, and more keys of kept paths than may wait until these are written. ---- */
 
-enum { LANES = 12, KEYS_A_LANE = 700, KEY_HIGH = 0xabc, HANGS_AFTER_SECONDS = 300 };
+enum { LANES = 12, KEYS_A_LANE = 700, KEY_HIGH = 0xabc, HANGS_AFTER_SECONDS = 60, MAY_WAIT_MS = 600000 }; /* a flush that waits for so long hangs */
 
 int __real_fallocate(int file, int mode, off_t from, off_t len);
 int __wrap_fallocate(int file, int mode, off_t from, off_t len);
-static _Atomic uint32_t times_told[LANES * KEYS_A_LANE];
+static _Atomic uint32_t times_told[LANES * KEYS_A_LANE], refusals;
 static pthread_barrier_t all_there;
 
 int __wrap_fallocate(int file, int mode, off_t from, off_t len) {
     if (!is_full) return __real_fallocate(file, mode, from, len);
+    refusals++;
     errno = ENOSPC;
     return -1;
 }
@@ -435,6 +437,17 @@ int __wrap_fallocate(int file, int mode, off_t from, off_t len) {
 static void note_told(void *unused, uint64_t high, uint64_t low) {
     (void)unused;
     if (CHECK(high == KEY_HIGH && low < LANES * KEYS_A_LANE)) times_told[low]++;
+}
+
+static void hangs(int signal) {
+    static const char what[] = "it hangs: a flush or a stop doesn't end on a disk that is full\n";
+    (void)signal;
+    _exit(write(STDOUT_FILENO, what, sizeof what - 1) > 0 ? 1 : 2);
+}
+
+static void end_within_limit(void) {
+    signal(SIGALRM, hangs);
+    alarm(HANGS_AFTER_SECONDS);
 }
 
 /* An open path has the lane stay this thread's, which has room for all of these in one buffer. */
@@ -461,7 +474,7 @@ static void keep_on_full_disk(void) {
     MUST(pthread_barrier_init(&all_there, NULL, LANES) == 0 ? DSPEC_OK : DSPEC_NO_MEMORY);
     for (uintptr_t i = 0; i < LANES; i++) MUST(pthread_create(&threads[i], NULL, keeps_keys, (void *)i) == 0 ? DSPEC_OK : DSPEC_NO_MEMORY);
     for (size_t i = 0; i < LANES; i++) pthread_join(threads[i], NULL);
-    alarm(HANGS_AFTER_SECONDS);
+    end_within_limit();
 }
 
 /* Each key was told once, but for those that were refused. */
@@ -493,9 +506,77 @@ static void mode_full_for_a_while(void) {
     are_told(&report);
 }
 
+/* ---- A key is told after its path is written, which the callback looks for in the trace's only file of records. ---- */
+
+enum { OF_PATHS = 0x1000000, IN_FULL_BUFFERS = 20000, FULL_TIMES = 5, TOLD_WITHIN_MS = 60000, FILE_SIZE = 1 << 22 }; /* the first of the requests, which no other number in the file is like */
+static _Atomic uint32_t told_keys, told_early;
+
+static const uint8_t *find_number(const uint8_t *from, const uint8_t *end, uint64_t number) { return from == NULL || from >= end ? NULL : memmem(from, (size_t)(end - from), &number, sizeof number); }
+
+/* Whether the file has a request's record, and then the event of its path, which has the request as its key. Each path is after the one before it. */
+static bool has_path(uint64_t request) {
+    static uint8_t bytes[FILE_SIZE];
+    static size_t before;
+    char path[4400];
+    snprintf(path, sizeof path, "%s/cpu_0_0", folder);
+    const int file = open(path, O_RDONLY | O_CLOEXEC);
+    const ssize_t len = pread(file, bytes, sizeof bytes, (off_t)before);
+    const uint8_t *const end = bytes + (len > 0 ? len : 0), *const record = find_number(bytes, end, request);
+    const uint8_t *const event = record == NULL ? NULL : find_number(record + sizeof request, end, request);
+    close(file);
+    if (event != NULL) before += (size_t)(event - bytes);
+    return event != NULL;
+}
+
+static void looks_for_path(void *unused, uint64_t high, uint64_t low) {
+    (void)unused;
+    (void)high;
+    told_early += !has_path(low);
+    told_keys++;
+}
+
+static void keep_with_key(uint64_t request) {
+    dspec_path path = dspec_path_begin(&tracer);
+    CHECK(query_in(&path, request, 0) == DSPEC_OK && dspec_path_key(&path, KEY_HIGH, request) && dspec_path_keep(&path));
+}
+
+static void all_are_told(uint32_t due) {
+    for (int waits = 0; told_keys < due && waits < TOLD_WITHIN_MS; waits++) usleep(1000);
+    if (!CHECK(told_keys == due && told_early == 0)) printf("%u told, of which %u before their path was written\n", told_keys, told_early);
+}
+
+/* Buffers get full one after another, and their thread begins the other one itself or is asked for that. A path's event has no room among its records, and now and then none in their buffer. */
+static void mode_told_of_full_buffers(void) {
+    begin((dspec_tracer_options){ .lanes = 1, .paths = 2, .specsize = 64, .bufsize = 1024, .period_ms = 1, .keep_ms = TOLD_WITHIN_MS, .park_bytes = 4096, .on_keep = looks_for_path });
+    for (uint64_t i = 0; i < IN_FULL_BUFFERS; i++) keep_with_key(OF_PATHS + i);
+    all_are_told(IN_FULL_BUFFERS);
+    ended(true);
+}
+
+/* The disk is full: one path is in the buffer that waits for it, and the next one in the other. When there is room again, that one is written before its key is told. */
+static void mode_told_after_full_disk(void) {
+    uint32_t due = 0;
+    begin((dspec_tracer_options){ .lanes = 1, .paths = 2, .period_ms = 1, .survive = true, .park_bytes = 4096, .on_keep = looks_for_path });
+    for (int times = 0; times < FULL_TIMES; times++) {
+        keep_with_key(OF_PATHS + due++);
+        all_are_told(due);
+        refusals = 0;
+        is_full = true;
+        keep_with_key(OF_PATHS + due);
+        for (int waits = 0; refusals == 0 && waits < TOLD_WITHIN_MS; waits++) usleep(1000); /* a round finds no room; a flush would find that before it */
+        CHECK(refusals > 0 && !dspec_tracer_flush(&tracer, MAY_WAIT_MS));
+        keep_with_key(OF_PATHS + due + 1);
+        CHECK(!dspec_tracer_flush(&tracer, MAY_WAIT_MS) && told_keys == due); /* the key was heard */
+        is_full = false;
+        due += 2;
+        all_are_told(due);
+    }
+    ended(true);
+}
+
 /* ---- Parked paths whose keys are told while the disk is full: they stay in their ring. ---- */
 
-enum { PARKED = 150, MAY_WAIT_MS = 600000 }; /* more than a turn keeps; a flush that waits for so long hangs */
+enum { PARKED = 150 }; /* more than a turn keeps */
 
 static void tell(uint64_t request) { CHECK(dspec_tracer_keep_key(&tracer, KEY_HIGH, request)); }
 
@@ -523,7 +604,7 @@ static void begin_parking(dspec_tracer_options options, uint64_t parked, uint64_
     begin(options);
     for (uint64_t request = 0; request < parked; request++) park(request);
     CHECK(dspec_tracer_flush(&tracer, MAY_WAIT_MS));
-    alarm(HANGS_AFTER_SECONDS);
+    end_within_limit();
     is_full = true;
     for (uint64_t request = 0; request < keys; request++) tell(request);
     CHECK(dspec_tracer_flush(&tracer, MAY_WAIT_MS) == (parked == 0));
@@ -588,6 +669,7 @@ static const struct {
     { "flush", mode_flush }, { "others", mode_others }, { "waits", mode_waits }, { "left", mode_left }, { "half", mode_half }, { "handed", mode_handed }, { "limit", mode_limit },
     { "stuck", mode_stuck }, { "without", mode_without }, { "closed", mode_closed }, { "closed_bound", mode_closed_bound }, { "closed_survive", mode_closed_survive },
     { "forbidden", mode_forbidden }, { "thread", mode_thread }, { "full_stop", mode_full_stop }, { "full_for_a_while", mode_full_for_a_while },
+    { "told_of_full_buffers", mode_told_of_full_buffers }, { "told_after_full_disk", mode_told_after_full_disk },
     { "parked_for_a_while", mode_parked_for_a_while }, { "parked_stop", mode_parked_stop }, { "parked_evicted", mode_parked_evicted }, { "parked_expired", mode_parked_expired },
 };
 

@@ -1,8 +1,8 @@
 /* The lanes' locks of a tracer, raced: `tracer_race FOLDER SEED [OPTION=NUMBER ..]`. Eight threads share two lanes while a signal's handler yields, spins or
  * sleeps inside their calls; where the processor can step, some calls are interrupted after each of their instructions. Paths go from thread to thread, and
  * a thread flushes meanwhile. With alone=1 each thread has a lane of its own, takes no lock, makes plain records inside its paths too, and steps half of its
- * requests, while another thread flushes all the time: then the consumer comes to lanes whose threads are in a call. With forbidden=1 the system refuses
- * membarrier(2) from some time on. Printed are the records of each kept path
+ * requests, while another thread flushes all the time: then the consumer comes to lanes whose threads are in a call. With records=1 the threads make plain
+ * records, many in a row, and a path now and then. With forbidden=1 the system refuses membarrier(2) from some time on. Printed are the records of each kept path
  * that were made, as bits, and what the stop tells; tests/c/tracer compares both with the trace. */
 #define _GNU_SOURCE
 #include "dspec_tracer.h"
@@ -22,7 +22,7 @@
 DSPEC_PROBE(query, uint64_t, request, uint32_t, step);
 DSPEC_PROBE(tick, uint64_t, number);
 
-enum { THREADS = 8, REQUESTS = 150, REQUESTS_ALONE = 30, STEPS = 5 };
+enum { THREADS = 8, REQUESTS = 150, REQUESTS_ALONE = 30, STEPS = 5, BURSTS = 60, MOST_IN_A_BURST = 200, NUMBERS = 1 << 20 };
 
 /* A path, and which of its records were answered DSPEC_OK, a bit each: one that waited too long for its lane is refused, and the next may be made. */
 typedef struct request {
@@ -39,7 +39,7 @@ static bool one_waits;
 static atomic_int running = THREADS;
 static _Atomic uint64_t ticks, refused;
 static uint64_t seed;
-static bool alone, is_forbidden;
+static bool alone, in_bursts, is_forbidden;
 static _Thread_local dice interrupted;
 
 static void on_interrupt(int signal) {
@@ -137,11 +137,28 @@ static void serve(uint64_t number, dice *d) {
     if (one_in(d, 4) && tick_now(&tracer, number) == DSPEC_OK) atomic_fetch_add(&ticks, 1);
 }
 
+/* Plain records, many in a row, each with a number of its own; and a path of one record now and then. */
+static void serve_in_bursts(uint64_t thread, dice *d) {
+    uint64_t number = thread * NUMBERS;
+    for (uint64_t i = 0; i < BURSTS; i++) {
+        const bool steps = one_in(d, 8);
+        const uint64_t until = number + 1 + below(d, steps ? 3 : MOST_IN_A_BURST);
+        if (steps) step(true);
+        while (number < until) plain(number++);
+        if (steps) step(false);
+        if (!one_in(d, 4)) continue;
+        request r = { dspec_path_begin(&tracer), i * THREADS + thread, 0 };
+        for (uint32_t at = 0; at < STEPS; at++) record(&r, at, d);
+        end(&r, d);
+    }
+}
+
 static void *work(void *number) {
     const uint64_t thread = (uint64_t)(uintptr_t)number;
     dice d = { seed * 64 + thread };
     interrupted = (dice){ seed * 64 + 32 + thread };
-    for (uint64_t i = 0; i < (alone ? REQUESTS_ALONE : REQUESTS); i++) {
+    if (in_bursts) serve_in_bursts(thread, &d);
+    for (uint64_t i = 0; !in_bursts && i < (alone ? REQUESTS_ALONE : REQUESTS); i++) {
         if (alone) serve_alone(i * THREADS + thread, &d);
         else serve(i * THREADS + thread, &d);
     }
@@ -157,6 +174,7 @@ int main(int count, char **words) {
         if (strcmp(words[i], "no_membarrier=1") == 0) options.no_membarrier = true;
         else if (strcmp(words[i], "forbidden=1") == 0) is_forbidden = true;
         else if (strcmp(words[i], "alone=1") == 0) alone = true, options.lanes = THREADS;
+        else if (strcmp(words[i], "records=1") == 0) in_bursts = true, options.bufsize = 1 << 20;
         else if (strcmp(words[i], "by_thread=1") == 0) options.by_thread = true;
         else if (strcmp(words[i], "keep_last=1") == 0) options.keep_last = true, options.paths = 31;
         else return 2;

@@ -53,7 +53,7 @@ static void on_step(int signal, siginfo_t *info, void *context) {
     if (due != BEGINS) was_refused = !dspec_path_drop(&handlers);
 }
 
-/* A record in a path that begins with it, or in none. */
+/* A record in a path that begins with it, or in none, before a path of the same thread. */
 static dspec_status records(bool in_path) {
     dspec_path path = dspec_path_begin(&tracer);
     dspec_status status;
@@ -61,7 +61,8 @@ static dspec_status records(bool in_path) {
     step(true);
     status = in_path ? query_in(&path, 2, 0) : tick_now(&tracer, 3);
     step(false);
-    if (in_path) dspec_path_drop(&path);
+    if (!in_path) CHECK(query_in(&path, 4, 0) == DSPEC_OK && query_in(&path, 4, 1) == DSPEC_OK);
+    CHECK(dspec_path_drop(&path));
     return status;
 }
 
@@ -117,11 +118,11 @@ static void gives_tokens(void) {
 }
 
 int main(int words, char **word) {
-    const dspec_tracer_options options = { .lanes = 2, .period_ms = 100000 };
     dspec_tracer_report report;
     bool is_tokens;
     if (words != 3) return 2;
     is_tokens = strcmp(word[2], "tokens") == 0;
+    const dspec_tracer_options options = { .lanes = is_tokens ? 2 : 1, .period_ms = 100000 }; /* a lane that is lost leaves none */
     if (!dspec_tracer_start(&tracer, word[1], &options, DSPEC_PROBES(query, tick))) {
         printf("%s\n0 passed, 1 failed\n", tracer.why);
         return 1;
@@ -129,6 +130,7 @@ int main(int words, char **word) {
     if (is_tokens) gives_tokens();
     else steps();
     CHECK(dspec_tracer_stop(&tracer, &report));
+    CHECK(report.no_slot == 0 && report.waited == 0);
     if (is_tokens) CHECK(report.kept == TOKENS && report.refused_records == 2 * REFUSED && report.threads == TOKENS);
     return check_end();
 }

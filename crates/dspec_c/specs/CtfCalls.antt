@@ -1,10 +1,10 @@
 -- Cited by calls. The calls on a CPU's files in a trace, and the metadata of one.
-use Rattle.std.specs.Prelude.{ℕ, ◌≡◌, ◌≢◌, ◌⊎◌, true, List, Some, None, length}
+use Rattle.std.specs.Prelude.{ℕ, ◌≡◌, ◌≢◌, ◌⊎◌, ◌&&◌, true, MatchBool, List, Some, None, length}
 use Rattle.dspec_c.specs.CtfStatuses.{needed_of, no_packet, no_stamp, packet_status, put_status, text_size, text_status}
 use Rattle.dspec_c.specs.Handles.{held_in, is_full}
-use Rattle.dspec_c.specs.Statuses.{bad_handle, no_memory, no_such_cpu}
-use Rattle.dspec_c.specs.Words.Outside.{EnabledRows, CpuFiling, no_packets, unwritten, Hands, HandsNone, HasAsMuchRoom, HasNoBatch, OpensBatch, Reserves, with_more_missed, without_rest}
-use Rattle.dspec_c.specs.Words.Outside.{PutsMetadata, PutsNone, One, Two, PacketFault, PutFault, TextFault, TraceIdentity, Packet}
+use Rattle.dspec_c.specs.Statuses.{bad_handle, busy, no_memory, no_such_cpu}
+use Rattle.dspec_c.specs.Words.Outside.{EnabledRows, CpuFiling, no_packets, unwritten, Hands, HandsNone, HasAsMuchRoom, HasNoBatch, OpensBatch, Reserves, with_more_missed, without_rest, has_no_rest}
+use Rattle.dspec_c.specs.Words.Outside.{SwapRooms, PutsMetadata, PutsNone, One, Two, PacketFault, PutFault, TextFault, TraceIdentity, Packet}
 use Rattle.dspec_c.specs.declared.{handle.Handle.Handle, held.HandleValue.HandleValue}
 use Rattle.dspec_c.specs.declared.held.HandleValue.TheVariants as held
 
@@ -70,6 +70,20 @@ ReservesSo size old status new = ((status ≡ 0) × Reserves old size new) ⊎ (
 abbrev pub CtfReserveAnswers : ℕ → HandleValue → ℕ → HandleValue → Type 0
 CtfReserveAnswers size (held.Files old) status now = (new : CpuFiling) × ((now ≡ held.Files new) × ReservesSo size old status new)
 CtfReserveAnswers size was status now = (status ≡ bad_handle) × (now ≡ was)
+
+-- two have each other's room, where neither has a record left to be handed out or lost; else all stays as it was
+abbrev pub SwapsSo : CpuFiling → CpuFiling → ℕ → CpuFiling → CpuFiling → Type 0
+SwapsSo one other status one_new other_new = MatchBool (has_no_rest one && has_no_rest other)
+    ((status ≡ 0) × SwapRooms one other one_new other_new) ((status ≡ busy) × (one_new ≡ one) × (other_new ≡ other))
+
+-- of files, and of what another handle holds
+abbrev pub SwapsWith : CpuFiling → HandleValue → ℕ → CpuFiling → HandleValue → Type 0
+SwapsWith one (held.Files other) status one_new now = (other_new : CpuFiling) × ((now ≡ held.Files other_new) × SwapsSo one other status one_new other_new)
+SwapsWith one was status one_new now = (status ≡ bad_handle) × (now ≡ was) × (one_new ≡ one)
+
+abbrev pub CtfSwapRoomsAnswers : HandleValue → HandleValue → ℕ → HandleValue → HandleValue → Type 0
+CtfSwapRoomsAnswers (held.Files one) other status now left = (one_new : CpuFiling) × ((now ≡ held.Files one_new) × SwapsWith one other status one_new left)
+CtfSwapRoomsAnswers was other status now left = (status ≡ bad_handle) × (now ≡ was) × (left ≡ other)
 
 -- the batch isn't of this CPU; or it is opened; or not, for that
 pub record OpensNone (drops : ℕ) (bytes : List ℕ) (old : CpuFiling) (status : ℕ) (new : CpuFiling) : Type 0 where

@@ -1,8 +1,8 @@
 //! The exports of a trace by time that C writes.
 
 ghost use Rattle.std.specs.Prelude.{◌≡◌, MatchResult, map, true, false};
-ghost use Rattle.dspec_c.specs.CtfCalls.{BeginsFiles, CtfLoseAnswers, CtfMetadataAnswers, CtfMissAnswers, CtfNewAnswers, CtfOpenAnswers, CtfPutAnswers, CtfReserveAnswers, HasNoFiles, OpensSo};
-ghost use Rattle.dspec_c.specs.CtfCalls.{PutsSo, ReservesSo, packet_room, text_room};
+ghost use Rattle.dspec_c.specs.CtfCalls.{BeginsFiles, CtfLoseAnswers, CtfMetadataAnswers, CtfMissAnswers, CtfNewAnswers, CtfOpenAnswers, CtfPutAnswers, CtfReserveAnswers, CtfSwapRoomsAnswers};
+ghost use Rattle.dspec_c.specs.CtfCalls.{HasNoFiles, OpensSo, PutsSo, ReservesSo, SwapsSo, SwapsWith, packet_room, text_room};
 ghost use Rattle.dspec_c.specs.Handles.{held_in, is_full};
 
 use crate::boxed::Boxed;
@@ -10,7 +10,7 @@ use crate::ctf_statuses::{NO_PACKET, NO_STAMP, needed_of, of_packet, of_put, of_
 use crate::handle::{Handle, HandleContents, lent};
 use crate::held::HandleValue;
 use crate::schema_calls::schema_in;
-use crate::statuses::{BAD_HANDLE, FULL_HANDLE, NO_MEMORY, NO_SUCH_CPU, OK};
+use crate::statuses::{BAD_HANDLE, BUSY, FULL_HANDLE, NO_MEMORY, NO_SUCH_CPU, OK};
 use dspec_ctf::{CpuPackets, Packet, TraceIdentity, put_metadata};
 use dspec_record::Enablings;
 use std::alloc::Global;
@@ -109,6 +109,33 @@ pub extern "C" fn dspec_ctf_reserve(files: &mut Handle, size: usize) -> u32
     ensures stays { is_full files.new ≡ is_full files.old }
 {
     lent!(files as Files(boxed), BAD_HANDLE => reserve(boxed.lend(), size))
+}
+
+fn swap_rooms(files: &mut CpuPackets, other: &mut CpuPackets) -> u32
+    ensures { SwapsSo files.old other.old result files.new other.new }
+{
+    match files.swap_rooms(other) {
+        true => OK,
+        false => BUSY,
+    }
+}
+
+// The room is exchanged with that of the files which another handle holds.
+fn swap_with(files: &mut CpuPackets, other: &mut Handle) -> u32
+    ensures answers { SwapsWith files.old (held_in other.old) result files.new (held_in other.new) }
+    ensures stays { is_full other.new ≡ is_full other.old }
+{
+    lent!(other as Files(boxed), BAD_HANDLE => swap_rooms(files, boxed.lend()))
+}
+
+/// Exchanges the rooms of two CPUs' files.
+#[unsafe(no_mangle)]
+pub extern "C" fn dspec_ctf_swap_rooms(files: &mut Handle, other: &mut Handle) -> u32
+    ensures answers { CtfSwapRoomsAnswers (held_in files.old) (held_in other.old) result (held_in files.new) (held_in other.new) }
+    ensures stays { is_full files.new ≡ is_full files.old }
+    ensures other_stays { is_full other.new ≡ is_full other.old }
+{
+    lent!(files as Files(boxed), BAD_HANDLE => swap_with(boxed.lend(), other))
 }
 
 fn open(files: &mut CpuPackets, cpu: u32, drops: u64, bytes: &[u8]) -> u32

@@ -6,8 +6,8 @@ unfoldable pub use Rattle.dspec_ctf.specs.ByTime.{packet_at, part_at, timed_pack
 pub use Rattle.dspec_ctf.specs.Filled.{AreFilledOf, filled_size, front_by, LacksBytes, portions, portions_from, span_by, takes_another}
 unfoldable pub use Rattle.dspec_ctf.specs.Filled.{filled_around, filled_packet, filled_packets}
 pub use Rattle.dspec_ctf.specs.InMemory.Batches.{HaveAllLeft, OpensWithoutMemory, parts_of, PutsPackets, PutsWithoutMemory}
-pub use Rattle.dspec_ctf.specs.InMemory.Calls.{as_written, FindsAlone, FindsAndHands, FindsNone, Hands, HandsMissed, HandsNone, HasAsMuchRoom, HasNoBatch, HasNoRunPacket, HasRoomFor, IsAllHanded}
-pub use Rattle.dspec_ctf.specs.InMemory.Calls.{IsFoundRun, OpensBatch, Reserves, run_bytes, with_more_missed, without_rest}
+pub use Rattle.dspec_ctf.specs.InMemory.Calls.{as_written, emptied_in, FindsAlone, FindsAndHands, FindsNone, Hands, HandsMissed, HandsNone, has_no_rest, HasAsMuchRoom, HasNoBatch, HasNoRunPacket}
+pub use Rattle.dspec_ctf.specs.InMemory.Calls.{HasRoomFor, IsAllHanded, IsFoundRun, OpensBatch, Reserves, run_bytes, SwapRooms, with_more_missed, without_rest}
 pub use Rattle.dspec_ctf.specs.InMemory.Filing.{CpuFiling, FilingRoom, no_packets, unwritten}
 pub use Rattle.dspec_ctf.specs.InMemory.Naming.{AreEvents, HasNoEvents, kind_number, kinds_in, PutsMetadata, PutsNone, texts_in}
 pub use Rattle.dspec_ctf.specs.Laws.{AreFiled, HaveAllBetween}

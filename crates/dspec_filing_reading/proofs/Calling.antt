@@ -1,14 +1,14 @@
 -- What each call makes of what is known of a CPU's files and packets.
-use Rattle.std.proofs.Common.{◌≡◌, ◌<◌, ◌≤◌, ◌+◌, ◌-◌, ◌^◌, ◌++◌, inl, inr, ℕ, List, [], ◌∷◌, Some, None, ap, sym, subst, ◌∙◌, arith, length, min, take}
+use Rattle.std.proofs.Common.{◌≡◌, ◌<◌, ◌≤◌, ◌+◌, ◌-◌, ◌^◌, ◌++◌, inl, inr, ℕ, true, List, [], ◌∷◌, Some, None, ap, sym, subst, ◌∙◌, arith, length, min, take}
 use Rattle.std.proofs.Math.Seq.{take-append_seam}
-use Rattle.std.proofs.lemmas.{Bool.Decides.nat_tests, List.append-nil}
+use Rattle.std.proofs.lemmas.{Bool.Decides.nat_tests, List.append-nil, List.Elements.All-nil}
 use Rattle.std.specs.Prelude.{slice_range}
-use Rattle.dspec_filing_reading.specs.Words.{Record, EnabledRows, IsText, CpuFiling, as_written, Hands, HandsNone, HasAsMuchRoom, OpensBatch, unwritten, without_rest, with_more_missed}
-use Rattle.dspec_filing_reading.specs.Words.{AreFrontsKept, FilingCall, CallMakes, told_missed, packets_after, Packets, all_written, opened_text, Opened, OpenRefused, Put, NoMore, PutRefused, Lost}
-use Rattle.dspec_filing_reading.specs.Words.{Missed, Reserved, Names, Packet, PutFault}
+use Rattle.dspec_filing_reading.specs.Words.{Record, EnabledRows, Accepts, IsText, CpuFiling, FilingRoom, as_written, emptied_in, Hands, HandsNone, has_no_rest, HasAsMuchRoom, OpensBatch, unwritten}
+use Rattle.dspec_filing_reading.specs.Words.{without_rest, with_more_missed, AreFrontsKept, FilingCall, CallMakes, told_missed, packets_after, Packets, all_written, opened_text, Opened, OpenRefused}
+use Rattle.dspec_filing_reading.specs.Words.{Put, NoMore, PutRefused, Lost, Missed, Reserved, RoomSwapped, Names, Packet, PutFault}
 use Rattle.dspec_record.specs.declared.header.Header.TheVariants as header
-use Rattle.dspec_filing_reading.proofs.{FilesLaws.FilesLaws, Fronts.all_accepted, Fronts.more_fronts, Fronts.none_between, Fronts.one_front, Packets.reads_same, Standing.Stands, Standing.finds}
-use Rattle.dspec_filing_reading.proofs.{Standing.hands_missed, Standing.hands_run, Standing.settles}
+use Rattle.dspec_filing_reading.proofs.{FilesLaws.FilesLaws, Fronts.all_accepted, Fronts.more_fronts, Fronts.none_between, Fronts.one_front, Packets.Reads, Packets.reads_same, Standing.Stands}
+use Rattle.dspec_filing_reading.proofs.{Standing.finds, Standing.hands_missed, Standing.hands_run, Standing.settles}
 
 -- so many are counted, where 64 bits are enough
 pub counted_whole : (n : ℕ) → min n (2 ^ 64 - 1) + 1 < 2 ^ 64 → min n (2 ^ 64 - 1) ≡ n
@@ -24,6 +24,10 @@ rises_none = grind (arith, nat_tests)
 
 pub rises : (old : CpuFiling) (call : FilingCall) (new : CpuFiling) → CallMakes old call new → new.missed + 1 < 2 ^ 64 → old.missed ≤ new.missed
 rises = grind (arith, nat_tests, rises_put, rises_none, counted_whole)
+
+-- where no record is left, all of them are written or lost
+at_the_end : (f : CpuFiling) → has_no_rest f ≡ true → f.from ≤ length f.records → f.from ≡ length f.records
+at_the_end f through within = grind (arith, nat_tests)
 
 -- bytes at the front of a room are the first of it
 at_front : (bytes rest filled : List ℕ) (size : ℕ) → size ≡ length bytes → filled ≡ bytes ++ rest → take size filled ≡ bytes
@@ -73,6 +77,38 @@ module _ (uuid : List ℕ) (e : EnabledRows) (names : Names) (hertz cpu : ℕ) w
         all = reads_same uuid e names hertz cpu w.written s.kept f.records end f.told_before s.written;
         told = omega (arith, whole, s.told, s.told_before);
         told_before = omega arith;
+      }
+
+  -- the room is another, and no batch is there any more
+  swaps : (f : CpuFiling) (w : Packets) (texts : List (List ℕ)) (count : ℕ) (room : FilingRoom) → has_no_rest f ≡ true → Stand f w texts count → Stand (emptied_in room f) w texts count
+  swaps f w texts count room through s =
+      let end : ℕ = length f.records in
+      let at_end : f.from ≡ end = at_the_end f through (omega (arith, s.from_place, s.within)) in
+      let placed : f.place ≡ f.from = omega (arith, at_end, s.from_place, s.within) in
+      let none : slice_range f.records f.from f.place ≡ [] = ap (λ n. slice_range f.records f.from n) placed ∙ none_between f.records f.from in
+      record {
+        uuid_is = s.uuid_is;
+        schema_is = s.schema_is;
+        cpu_is = s.cpu_is;
+        accepted = All-nil (Accepts e);
+        from_place = omega arith;
+        within = omega arith;
+        few = s.few;
+        first = s.first;
+        found = λ run none. absurd (cc (none));
+        kept = s.kept;
+        lost = s.lost;
+        keeps = λ to low high.
+            let start : to ≡ 0 = omega (arith, high) in
+            let no_more : s.lost + (end - f.from) ≡ s.lost + (0 - to) = omega (arith, at_end, start) in
+            let nothing : slice_range f.records f.from f.from ≡ slice_range [] 0 to = none_between f.records f.from ∙ sym (ap (λ n. slice_range [] 0 n) start) in
+            subst (λ n. AreFrontsKept e texts (s.kept ++ slice_range [] 0 to) n) no_more
+            (subst (λ rs. AreFrontsKept e texts (s.kept ++ rs) (s.lost + (end - f.from))) nothing (s.keeps f.from (omega arith) (omega (arith, at_end))));
+        counted = s.counted;
+        written = s.written;
+        all = subst (λ rs. Reads uuid e names hertz cpu (w.written ++ w.last) (s.kept ++ rs) f.told) none s.all;
+        told = s.told;
+        told_before = s.told_before;
       }
 
   -- a batch is opened
@@ -159,3 +195,5 @@ module _ (laws : FilesLaws) (uuid : List ℕ) (e : EnabledRows) (names : Names) 
   after old w texts count Lost new is small s = grind (arith, nat_tests, plain, Stands, loses)
   after old w texts count (Missed more) new is small s = grind (arith, nat_tests, Stands, append-nil, misses)
   after old w texts count Reserved new room small s = plain new w texts count (roomy uuid e names hertz cpu old w texts count new room s)
+  after old w texts count RoomSwapped new (through, is) small s =
+      plain new w texts count (subst (λ (g : CpuFiling). Stands uuid e names hertz cpu g w texts count) (sym is) (swaps uuid e names hertz cpu old w texts count new.room through s))

@@ -1,6 +1,7 @@
 -- Cited by calls. Calls on the files of a CPU in a trace by time, one after another, and which of the packets that they hand out count as written.
-use Rattle.std.specs.Prelude.{ℕ, ◌≡◌, ◌+◌, List, [], ◌∷◌, ◌++◌, take, Some, None}
-use Rattle.dspec_filing_reading.specs.Words.Outside.{CpuFiling, Hands, HandsNone, HasAsMuchRoom, HasNoBatch, OpensBatch, with_more_missed, without_rest, PacketFault, PutFault, Packet}
+use Rattle.std.specs.Prelude.{ℕ, ◌≡◌, ◌+◌, true, List, [], ◌∷◌, ◌++◌, take, Some, None}
+use Rattle.dspec_filing_reading.specs.Words.Outside.{CpuFiling, emptied_in, Hands, HandsNone, has_no_rest, HasAsMuchRoom, HasNoBatch, OpensBatch, with_more_missed, without_rest, PacketFault}
+use Rattle.dspec_filing_reading.specs.Words.Outside.{PutFault, Packet}
 
 -- a call, and what it did
 pub data FilingCall : Type 0 where
@@ -17,6 +18,8 @@ pub data FilingCall : Type 0 where
   Missed : ℕ → FilingCall
   -- memory was taken for batches, or not
   Reserved : FilingCall
+  -- the room was exchanged with that of other files
+  RoomSwapped : FilingCall
 
 -- what each makes of the files
 abbrev pub CallMakes : CpuFiling → FilingCall → CpuFiling → Type 0
@@ -28,6 +31,7 @@ CallMakes old PutRefused new = (room : List ℕ) × ((fault : PutFault) × Hands
 CallMakes old Lost new = new ≡ without_rest old
 CallMakes old (Missed count) new = new ≡ with_more_missed old count
 CallMakes old Reserved new = HasAsMuchRoom old new
+CallMakes old RoomSwapped new = (has_no_rest old ≡ true) × (new ≡ emptied_in new.room old)
 
 -- all of them, the first at the head
 abbrev pub CallsMake : CpuFiling → List FilingCall → CpuFiling → Type 0
@@ -60,6 +64,7 @@ packets_after w PutRefused = all_written w
 packets_after w Lost = record { written = w.written; last = [] }
 packets_after w (Missed count) = w
 packets_after w Reserved = w
+packets_after w RoomSwapped = w
 
 -- after all calls, the first at the head
 abbrev pub packets_after_all : Packets → List FilingCall → Packets

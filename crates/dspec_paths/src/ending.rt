@@ -13,6 +13,7 @@ use dspec_deeds::Decided;
 use dspec_word::SpecId;
 
 // A commit; None where it is to wait for room.
+#[inline(always)]
 fn commit_or_wait<B: SpeculationCalls>(cpu: &mut B, id: SpecId, waits: bool) -> Option<Decided>
     ensures same { B.identity cpu.new ≡ B.identity cpu.old }
     ensures commits { CommitsOrWaits (B.lacks_room cpu.new) waits id result (B.made cpu.old) (B.made cpu.new) }
@@ -116,6 +117,7 @@ impl Paths {
     }
 
     // It is lost as a whole, since its older records were.
+    #[inline(never)]
     fn lose_rest<B: SpeculationCalls>(
         &mut self,
         cpu: &mut B,
@@ -134,6 +136,7 @@ impl Paths {
     }
 
     // Its last records, after so many older ones.
+    #[inline(always)]
     fn keep_newest<B: SpeculationCalls>(
         &mut self,
         cpu: &mut B,
@@ -182,6 +185,7 @@ impl Paths {
     }
 
     // Its older records alone.
+    #[inline(never)]
     fn keep_older_part<B: SpeculationCalls>(
         &mut self,
         cpu: &mut B,
@@ -211,6 +215,7 @@ impl Paths {
     }
 
     /// Throws a path away: its speculations are discarded. Whether one of this name was open and undecided.
+    #[inline(always)]
     pub fn discard<B: SpeculationCalls>(&mut self, cpu: &mut B, key: &PathKey) -> bool
         ensures same { B.identity cpu.new ≡ B.identity cpu.old }
         ensures discards { DiscardsPath key.now result (B.made cpu.old) (B.made cpu.new) (places_of self.old) (places_of self.new) }
@@ -237,6 +242,7 @@ impl Paths {
     }
 
     // Its speculations are discarded, and its place is free.
+    #[inline(always)]
     fn empty<B: SpeculationCalls>(&mut self, cpu: &mut B, key: &PathKey) -> bool
         ensures same { B.identity cpu.new ≡ B.identity cpu.old }
         ensures discards { DiscardsPath key.now result (B.made cpu.old) (B.made cpu.new) (places_of self.old) (places_of self.new) }

@@ -64,7 +64,7 @@ impl<'a, S: Schema> SpeculationCalls for LentCpu<'a, S> {
         self.cpu.commit_if_room(self.shared, id)
     }
 
-    #[inline]
+    #[inline(always)]
     fn discard(&mut self, id: SpecId) -> Decided {
         self.cpu.discard(self.shared, id)
     }

@@ -10,6 +10,7 @@ use dspec_deeds::{Decided, Opening};
 use dspec_word::SpecId;
 
 /// Discards a speculation, where there is one.
+#[inline(never)]
 pub(crate) fn discard_if_there<B: SpeculationCalls>(
     cpu: &mut B,
     id: Option<SpecId>,

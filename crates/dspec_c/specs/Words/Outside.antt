@@ -46,7 +46,8 @@ pub use Rattle.dspec_session_core.specs.Words.{Asked, Awaited, called_at, Cleane
 pub use Rattle.dspec_session_core.specs.Words.{IsSameConsumer, IsSession, pairs_of, set_up_of, Stopped, taken_at, Took, view_of}
 pub use Rattle.dspec_session_core.specs.declared.left.Left.{Left}
 pub use Rattle.dspec_session_core.specs.declared.session.Session.{Session}
-pub use Rattle.dspec_ctf.specs.Words.{CpuFiling, Hands, HandsNone, HasAsMuchRoom, HasNoBatch, no_packets, OpensBatch, PutsMetadata, PutsNone, Reserves, unwritten, with_more_missed, without_rest}
+pub use Rattle.dspec_ctf.specs.Words.{CpuFiling, Hands, HandsNone, has_no_rest, HasAsMuchRoom, HasNoBatch, no_packets, OpensBatch, PutsMetadata, PutsNone, Reserves, SwapRooms, unwritten}
+pub use Rattle.dspec_ctf.specs.Words.{with_more_missed, without_rest}
 pub use Rattle.dspec_ctf.specs.declared.fault.MetadataFault.{MetadataFault}
 pub use Rattle.dspec_ctf.specs.declared.fault.NameFault.{NameFault}
 pub use Rattle.dspec_ctf.specs.declared.in_memory.fault.PutFault.{PutFault}

@@ -1,7 +1,7 @@
 -- Cited by calls. All packets of a batch, and the room that they want.
 use Rattle.std.specs.Prelude.{◌≡◌, ◌≤◌, ◌-◌, ◌==◌, ℕ, List, [], ◌∷◌, length, Some, if◌then◌else◌}
-use Rattle.dspec_ctf.specs.{InMemory.Calls.Hands, InMemory.Calls.HandsNone, InMemory.Calls.HasNoBatch, InMemory.Calls.HasRoomFor, InMemory.Filing.CpuFiling, Rows.AreRuns, Streams.IsText}
-use Rattle.dspec_ctf.specs.{declared.in_memory.packet.Packet.Packet, declared.rows.Run.Run, declared.stream.PacketFault.TheVariants.Memory}
+use Rattle.dspec_ctf.specs.{InMemory.Calls.Hands, InMemory.Calls.HandsNone, InMemory.Calls.HasNoBatch, InMemory.Calls.HasRoomFor, InMemory.Filing.CpuFiling, InMemory.Filing.left}
+use Rattle.dspec_ctf.specs.{InMemory.Filing.unwritten, Rows.AreRuns, Streams.IsText, declared.in_memory.packet.Packet.Packet, declared.rows.Run.Run, declared.stream.PacketFault.TheVariants.Memory}
 use Rattle.dspec_ctf.specs.declared.in_memory.fault.PutFault.TheVariants as put
 
 -- calls of `put` one after another, of which each hands out a packet
@@ -34,3 +34,7 @@ OpensWithoutMemory = (f : CpuFiling) (size drops : ℕ) (text : List ℕ) → Ha
 abbrev pub PutsWithoutMemory : Type 0
 PutsWithoutMemory = (f new : CpuFiling) (size : ℕ) (text room : List ℕ) → length f.uuid ≡ 16 → HasRoomFor size f.room → IsText f.schema text f.records → length text ≤ size
     → HandsNone f room (put.Packet Memory) new → ⊥
+
+-- what is missed and told later is the same of both: so much was missed and told, and so much of a batch is left to be lost
+abbrev pub MissesAsBefore : CpuFiling → CpuFiling → Type 0
+MissesAsBefore old new = (new.missed ≡ old.missed) × (new.told ≡ old.told) × (new.told_before ≡ old.told_before) × (left new ≡ left old) × (unwritten new ≡ unwritten old)

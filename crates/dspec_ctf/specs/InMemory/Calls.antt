@@ -1,5 +1,5 @@
 -- Cited by calls. What each call makes of a CPU's files.
-use Rattle.std.specs.Prelude.{◌≡◌, ◌≢◌, ℕ, ◌+◌, ◌-◌, ◌*◌, ◌^◌, ◌<◌, ◌≤◌, ◌++◌, ◌⊎◌, List, length, drop, slice_range, Option, Some, None}
+use Rattle.std.specs.Prelude.{◌≡◌, ◌≢◌, ◌==◌, ℕ, ◌+◌, ◌-◌, ◌*◌, ◌^◌, ◌<◌, ◌≤◌, ◌++◌, ◌⊎◌, Bool, List, [], length, drop, slice_range, Option, Some, None}
 use Rattle.dspec_ctf.specs.{Filled.filled_size, Filled.most_body, Filled.LacksBytes, InMemory.Filing.CpuFiling, InMemory.Filing.FilingRoom, InMemory.Filing.IsRunWithin, InMemory.Filing.as_counted}
 use Rattle.dspec_ctf.specs.{InMemory.Filing.left, InMemory.Filing.unwritten, Rows.HasNoRoomFor, Rows.HasNoRun, Rows.IsFileRun, Rows.most_bytes, Rows.most_records, Rows.missed_packets}
 use Rattle.dspec_ctf.specs.{Rows.run_packet, Streams.HasNoRecords, Streams.IsText, Words.Outside.Record, declared.in_memory.fault.PutFault.PutFault, declared.in_memory.packet.Packet.Packet}
@@ -159,3 +159,15 @@ without_rest f =
 -- so many events more were missed
 abbrev pub with_more_missed : CpuFiling → ℕ → CpuFiling
 with_more_missed f count = record f { missed = as_counted (f.missed + count) }
+
+-- no record of the batch is left that could be handed out or lost
+abbrev pub has_no_rest : CpuFiling → Bool
+has_no_rest f = unwritten f == 0
+
+-- without a batch, in this room; what was missed, and how much of that was told, is as it was
+abbrev pub emptied_in : FilingRoom → CpuFiling → CpuFiling
+emptied_in room f = record f { records = []; from = 0; place = 0; run = None; room = room }
+
+-- two have each other's room, and no batch
+abbrev pub SwapRooms : CpuFiling → CpuFiling → CpuFiling → CpuFiling → Type 0
+SwapRooms one other one_new other_new = (one_new ≡ emptied_in other.room one) × (other_new ≡ emptied_in one.room other)

@@ -1,14 +1,16 @@
 //! Batches, and what wasn't written of them.
 
-ghost use Rattle.std.specs.Prelude.{◌≡◌, IfOk, IfErr, IfSome, OnOk, OnErr, None};
+ghost use Rattle.std.specs.Prelude.{◌≡◌, ◌&&◌, true, false, IfOk, IfErr, IfSome, OnOk, OnErr, None};
 ghost use Rattle.dspec_record.specs.declared.header.Header.TheVariants.{One, Two};
-ghost use Rattle.dspec_ctf.specs.InMemory.{Calls.HasAsMuchRoom, Calls.HasNoBatch, Calls.OpensBatch, Calls.Reserves, Calls.with_more_missed, Calls.without_rest, Filing.no_packets, Filing.unwritten};
+ghost use Rattle.dspec_ctf.specs.InMemory.Calls.{HasAsMuchRoom, HasNoBatch, OpensBatch, Reserves, SwapRooms, emptied_in, has_no_rest, with_more_missed, without_rest};
+ghost use Rattle.dspec_ctf.specs.InMemory.Filing.{no_packets, unwritten};
 
 use super::scratch::Scratch;
 use crate::rows::{most_records, read_again, reserve_in};
 use crate::{CpuPackets, PacketFault, Rows};
 use dspec_record::{Enablings, Header};
 use std::alloc::{AllocError, Global};
+use std::mem;
 
 impl CpuPackets {
     /// The files of this CPU, of which there is none yet, in a trace with this uuid, which its metadata tells too. None where records have no
@@ -98,5 +100,32 @@ impl CpuPackets {
         ensures { self.new ≡ with_more_missed self.old count }
     {
         self.missed = self.missed.saturating_add(count);
+    }
+
+    // Without a batch.
+    fn empty(&mut self)
+        ensures { self.new ≡ emptied_in self.old.room self.old }
+    {
+        self.records.clear();
+        self.from = 0;
+        self.place = 0;
+        self.run = None;
+    }
+
+    /// Exchanges the rooms of two of them, so that one that `reserve` took serves each in its turn. Where a record of either's batch is left that could be handed out
+    /// or lost, the answer is false and nothing is changed. Else neither has a batch any more, and what each missed and tells stays.
+    pub fn swap_rooms(&mut self, other: &mut CpuPackets) -> bool
+        ensures answer { result ≡ (has_no_rest self.old && has_no_rest other.old) }
+        ensures swapped { result ≡ true → SwapRooms self.old other.old self.new other.new }
+        ensures refused { result ≡ false → (self.new ≡ self.old) × (other.new ≡ other.old) }
+    {
+        if self.from != self.records.len() || other.from != other.records.len() {
+            return false;
+        }
+        self.empty();
+        other.empty();
+        mem::swap(&mut self.records, &mut other.records);
+        mem::swap(&mut self.scratch, &mut other.scratch);
+        true
     }
 }

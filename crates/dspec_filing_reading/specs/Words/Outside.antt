@@ -2,8 +2,9 @@
 pub use Rattle.dspec_record.specs.Words.{accepted-parts, enabled, EnabledRows, Record, table_accepts, table_shape, table_text}
 pub use Rattle.dspec_record.specs.declared.header.Header.TheVariants.{Two}
 pub use Rattle.dspec_buffer.specs.Words.{BufferText}
-pub use Rattle.dspec_ctf.specs.Words.{Accepts, AreFiled, AreRuns, as_written, CpuFiling, GoesToFile, Hands, HandsNone, HasAsMuchRoom, HasNoBatch, HaveAllBetween, IsFileRun, IsFoundRun, IsText}
-pub use Rattle.dspec_ctf.specs.Words.{missed_packets, no_packets, of_file, OpensBatch, run_files, run_packet, run_packets, Spreads, told_by, unwritten, with_more_missed, without_rest}
+pub use Rattle.dspec_ctf.specs.Words.{Accepts, AreFiled, AreRuns, as_written, CpuFiling, emptied_in, FilingRoom, GoesToFile, Hands, HandsNone, has_no_rest, HasAsMuchRoom, HasNoBatch, HaveAllBetween}
+pub use Rattle.dspec_ctf.specs.Words.{IsFileRun, IsFoundRun, IsText, missed_packets, no_packets, of_file, OpensBatch, run_files, run_packet, run_packets, Spreads, told_by, unwritten}
+pub use Rattle.dspec_ctf.specs.Words.{with_more_missed, without_rest}
 pub use Rattle.dspec_ctf.specs.declared.form.Form.TheVariants.{ByTime}
 pub use Rattle.dspec_ctf.specs.declared.in_memory.fault.PutFault.{PutFault}
 pub use Rattle.dspec_ctf.specs.declared.in_memory.packet.Packet.{Packet}

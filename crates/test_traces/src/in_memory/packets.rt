@@ -206,6 +206,31 @@ fn what_is_lost_is_told(rt: HostRuntime) -> Result<(), Fail> {
     Ok(())
 }
 
+/// While a packet of a batch may be lost, or one is left, no room is exchanged. Once there is none, what each missed is told of it as before.
+#[test]
+fn rooms_are_swapped_between_batches(rt: HostRuntime) -> Result<(), Fail> {
+    let alloc = rt.alloc();
+    let mut files = opened(&rt, alloc, 0, &[10, 20])?;
+    let mut others = opened(&rt, alloc, 4, &[9])?;
+    same(&rt, files.swap_rooms(&mut others), false);
+    has_records(&rt, alloc, &mut files, 0, 0, &[10, 20])?;
+    same(&rt, next_of(alloc, &mut files)?.0, None);
+    same(&rt, files.swap_rooms(&mut others), false);
+    has_told(&rt, alloc, &mut others, 0, 0..4)?;
+    has_records(&rt, alloc, &mut others, 0, 4, &[9])?;
+    same(&rt, others.swap_rooms(&mut files), false);
+    same(&rt, others.lose(), 1);
+    same(&rt, others.swap_rooms(&mut files), true);
+    same(&rt, files.lose(), 0);
+    same(&rt, others.lose(), 0);
+    same(&rt, files.open(0, &text_of(alloc, &[30])?), Ok(()));
+    has_records(&rt, alloc, &mut files, 0, 0, &[30])?;
+    same(&rt, others.open(0, &[]), Ok(()));
+    has_told(&rt, alloc, &mut others, 9, 4..5)?;
+    same(&rt, next_of(alloc, &mut others)?.0, None);
+    Ok(())
+}
+
 #[test]
 fn batch_that_is_left(rt: HostRuntime) -> Result<(), Fail> {
     let alloc = rt.alloc();
