@@ -55,10 +55,11 @@ static pthread_t caller;
 static dspec_path callers;
 static _Atomic bool has_begun, is_inside, may_leave, is_over;
 
-/* By the lane as its own, or by its lock, which nobody else takes meanwhile. */
+/* By the lane as its own, or by its lock, which nobody else takes meanwhile. On a lane that is shared `inside` says nothing: a thread sets it for a moment, before it takes the lock. */
 static bool is_in_call(void) {
-    if (__atomic_load_n(&callers.lane->inside, __ATOMIC_RELAXED)) return true;
-    return __atomic_load_n(&callers.lane->state, __ATOMIC_RELAXED) & DSPEC_TRACER_HELD_ && tick_now(&tracer, 1) == DSPEC_BUSY;
+    const uint32_t state = __atomic_load_n(&callers.lane->state, __ATOMIC_RELAXED);
+    if (!(state & DSPEC_TRACER_LOOK_)) return __atomic_load_n(&callers.lane->inside, __ATOMIC_RELAXED);
+    return state & DSPEC_TRACER_HELD_ && tick_now(&tracer, 1) == DSPEC_BUSY;
 }
 
 static void stay(int signal) {
@@ -508,23 +509,23 @@ static void mode_full_for_a_while(void) {
 
 /* ---- A key is told after its path is written, which the callback looks for in the trace's only file of records. ---- */
 
-enum { OF_PATHS = 0x1000000, IN_FULL_BUFFERS = 20000, FULL_TIMES = 5, TOLD_WITHIN_MS = 60000, FILE_SIZE = 1 << 22 }; /* the first of the requests, which no other number in the file is like */
+enum { OF_PATHS = 0x1000000, IN_FULL_BUFFERS = 20000, FULL_PLAYS = 6, FULL_TIMES = 5, TOLD_WITHIN_MS = 60000, FILE_SIZE = 1 << 22 }; /* the first of the requests, which no other number in the file is like */
 static _Atomic uint32_t told_keys, told_early;
+static size_t found_before; /* so many bytes of the file */
 
 static const uint8_t *find_number(const uint8_t *from, const uint8_t *end, uint64_t number) { return from == NULL || from >= end ? NULL : memmem(from, (size_t)(end - from), &number, sizeof number); }
 
 /* Whether the file has a request's record, and then the event of its path, which has the request as its key. Each path is after the one before it. */
 static bool has_path(uint64_t request) {
     static uint8_t bytes[FILE_SIZE];
-    static size_t before;
     char path[4400];
     snprintf(path, sizeof path, "%s/cpu_0_0", folder);
     const int file = open(path, O_RDONLY | O_CLOEXEC);
-    const ssize_t len = pread(file, bytes, sizeof bytes, (off_t)before);
+    const ssize_t len = pread(file, bytes, sizeof bytes, (off_t)found_before);
     const uint8_t *const end = bytes + (len > 0 ? len : 0), *const record = find_number(bytes, end, request);
     const uint8_t *const event = record == NULL ? NULL : find_number(record + sizeof request, end, request);
     close(file);
-    if (event != NULL) before += (size_t)(event - bytes);
+    if (event != NULL) found_before += (size_t)(event - bytes);
     return event != NULL;
 }
 
@@ -546,11 +547,25 @@ static void all_are_told(uint32_t due) {
 }
 
 /* Buffers get full one after another, and their thread begins the other one itself or is asked for that. A path's event has no room among its records, and now and then none in their buffer. */
-static void mode_told_of_full_buffers(void) {
+static void fills_buffers(void) {
+    found_before = told_keys = 0;
     begin((dspec_tracer_options){ .lanes = 1, .paths = 2, .specsize = 64, .bufsize = 1024, .period_ms = 1, .keep_ms = TOLD_WITHIN_MS, .park_bytes = 4096, .on_keep = looks_for_path });
     for (uint64_t i = 0; i < IN_FULL_BUFFERS; i++) keep_with_key(OF_PATHS + i);
     all_are_told(IN_FULL_BUFFERS);
     ended(true);
+    dspec_tracer_drop(&tracer);
+}
+
+/* Several times, each in a folder of its own: a key that is told too early is so in some of them only. */
+static void mode_told_of_full_buffers(void) {
+    const char *const top = folder;
+    char path[4300];
+    for (int play = 0; play < FULL_PLAYS; play++) {
+        snprintf(path, sizeof path, "%s-%d", top, play);
+        folder = path;
+        fills_buffers();
+    }
+    folder = top;
 }
 
 /* The disk is full: one path is in the buffer that waits for it, and the next one in the other. When there is room again, that one is written before its key is told. */
