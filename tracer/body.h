@@ -247,6 +247,7 @@ struct dspec_tracer_body {
     uint32_t asked, served, flushing; /* tickets of flushes: the last one that was asked for and that was served; and how many threads wait for one */
     uint32_t flushed;                 /* the ticket that is being served, */
     uint64_t undrained;               /* and the lanes that stay for it */
+    uint64_t drained;                 /* lanes that may have been found empty since their paths were looked at (keeper.c) */
     uint32_t misses;                  /* whether the folder misses something that was kept */
     APART uint64_t no_slot, no_room, nested, late, waited, threads, refused_records, missing;
     struct lane lanes[]; /* `count`, and one more of the consumer's own */

@@ -106,7 +106,10 @@ static bool drain_lane(struct lane *lane, patience *left, void *unused) {
     return is_empty || LOAD(&lane->waits_for_disk);
 }
 
-static uint64_t drain(body *tracer, uint64_t which) { return each_lane(tracer, which, TAKE_US, drain_lane, NULL); }
+static uint64_t drain(body *tracer, uint64_t which) {
+    tracer->drained |= which;
+    return each_lane(tracer, which, TAKE_US, drain_lane, NULL);
+}
 
 /* A flush is served as each lane was found empty since it was asked for; those that weren't are tried again in the next turn. */
 static void serve_flush(body *tracer, uint32_t asked) {

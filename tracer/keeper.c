@@ -249,8 +249,10 @@ static void hear(body *tracer) {
     if (keys_are_waiting(tracer->keys)) consumer_wakes(tracer); /* the others come in the next turn */
 }
 
-/* Looks at these lanes, or where there are new keys at all. */
+/* Looks at these lanes and those that were drained since the last look, or where there are new keys at all. */
 static void look(body *tracer, uint64_t which) {
+    which |= tracer->drained;
+    tracer->drained = 0;
     for (uint32_t i = 0; i < tracer->count; i++) {
         struct lane *lane = &tracer->lanes[i];
         const bool at_all = tracer->keeper->fresh_count > 0;

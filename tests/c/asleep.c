@@ -197,16 +197,16 @@ static bool stays_asleep(void) {
     return false;
 }
 
-/* Whether so many paths are kept, within a minute. */
+/* Whether so many paths are kept, within a minute: those as well that were open still when the consumer heard of their key. */
 static bool are_kept(uint64_t paths) {
     const uint64_t until = dspec_tracer_now() + MINUTE_NS;
     dspec_tracer_report report;
     do {
         if (!dspec_tracer_counts(&tracer, &report)) return false;
-        if (report.park_kept == paths) return true;
+        if (report.kept == paths) return true;
         usleep(1000);
     } while (dspec_tracer_now() < until);
-    printf("%" PRIu64 " of %" PRIu64 " paths are kept\n", report.park_kept, paths);
+    printf("%" PRIu64 " of %" PRIu64 " paths are kept\n", report.kept, paths);
     return false;
 }
 

@@ -190,7 +190,15 @@ ssize_t __real_write(int file, const void *bytes, size_t len);
 ssize_t __wrap_write(int file, const void *bytes, size_t len);
 static _Atomic bool writes_stand, is_writing, is_full;
 
+static _Atomic bool lets_go;
+static sem_t may_go, has_gone;
+
 ssize_t __wrap_write(int file, const void *bytes, size_t len) {
+    if (lets_go && len >= 1024) {
+        lets_go = false;
+        sem_post(&may_go);
+        sem_wait(&has_gone);
+    }
     while (writes_stand && len >= 1024) {
         is_writing = true;
         usleep(1000);
@@ -677,6 +685,42 @@ static void mode_parked_expired(void) {
     CHECK(report.key_missed == 5 && report.park_expired == 5 && report.park_kept == 0 && report.kept == 0);
 }
 
+/* ---- Paths whose key was told before, in the middle of a turn that serves a flush: the consumer has looked at what is parked, and finds their lane empty after that. ---- */
+
+static dspec_path left_open;
+
+static void *parks_in_turn(void *unused) {
+    sem_wait(&may_go);
+    park(1);
+    left_open = with_key(1);
+    sem_post(&has_gone);
+    sem_wait(&may_go); /* what it has open is thrown away by its end */
+    return unused;
+}
+
+/* One is parked, and one is thrown away later: both are kept. Nobody else wakes the consumer. */
+static void mode_parked_beside_flush(void) {
+    pthread_t thread;
+    dspec_tracer_report report;
+    dspec_path path;
+    begin((dspec_tracer_options){ .lanes = 1, .paths = 2, .period_ms = 1000000, .park_bytes = 65536 });
+    sem_init(&may_go, 0, 0);
+    sem_init(&has_gone, 0, 0);
+    pthread_create(&thread, NULL, parks_in_turn, NULL);
+    tell(1);
+    CHECK(dspec_tracer_flush(&tracer, MAY_WAIT_MS));
+    path = with_key(2);
+    CHECK(dspec_path_drop(&path)); /* the flush tells that one was thrown away: that is the write in its turn */
+    lets_go = true;
+    CHECK(dspec_tracer_flush(&tracer, MAY_WAIT_MS) && !lets_go);
+    for (int waits = 0; counts().park_kept == 0 && waits < TOLD_WITHIN_MS; waits++) usleep(1000);
+    CHECK(!dspec_path_drop(&left_open));
+    sem_post(&may_go);
+    pthread_join(thread, NULL);
+    report = ended(true);
+    CHECK(report.park_kept == 1 && report.kept == 2 && report.thrown == 1 && report.key_missed == 0);
+}
+
 static const struct {
     const char *name;
     void (*run)(void);
@@ -686,6 +730,7 @@ static const struct {
     { "forbidden", mode_forbidden }, { "thread", mode_thread }, { "full_stop", mode_full_stop }, { "full_for_a_while", mode_full_for_a_while },
     { "told_of_full_buffers", mode_told_of_full_buffers }, { "told_after_full_disk", mode_told_after_full_disk },
     { "parked_for_a_while", mode_parked_for_a_while }, { "parked_stop", mode_parked_stop }, { "parked_evicted", mode_parked_evicted }, { "parked_expired", mode_parked_expired },
+    { "parked_beside_flush", mode_parked_beside_flush },
 };
 
 int main(int argc, char **argv) {
