@@ -225,7 +225,8 @@ static void in_any_order(void) {
     flush();
     keep(6);
     stop();
-    CHECK(has_alone((const uint64_t[]){ 1, 2, 3, 4, 5, 6 }, 6, 3) && report.kept == 6 && report.thrown == 0 && report.parked == 2 && report.park_kept == 2 && report.accepted == 18 && report.discarded == 0);
+    CHECK(has_alone((const uint64_t[]){ 1, 2, 3, 4, 5, 6 }, 6, 3) && report.kept == 6 && report.thrown == 0 && report.accepted == 18 && report.discarded == 0);
+    CHECK(report.parked == report.park_kept && (report.parked == 2 || report.parked == 1)); /* 1: the consumer saw the key of path 5 between two calls on that */
     CHECK(atomic_load(&told_keys) == 0 && report.key_missed == 0); /* the program knows them already */
 }
 
@@ -352,11 +353,11 @@ static void held_for(void) {
 }
 
 static void expired(void) {
-    begin((dspec_tracer_options){ .lanes = 2, .paths = 2, .park_bytes = 4096, .park_ms = 20, .remember_ms = 600000 });
+    begin((dspec_tracer_options){ .lanes = 2, .paths = 2, .park_bytes = 4096, .park_ms = 2000, .remember_ms = 600000 });
     park(1, 3);
     park(2, 3);
     is_noted();
-    usleep(100000);
+    usleep(2500000);
     keep(1);
     flush();
     park(3, 3);
