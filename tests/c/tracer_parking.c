@@ -141,6 +141,7 @@ static void begin(dspec_tracer_options options) {
     without_folder();
     if (options.period_ms == 0) options.period_ms = 5;
     if (options.specsize == 0) options.specsize = 1024;
+    if (options.park_bytes > 0 && options.park_ms == 0) options.park_ms = 3600000; /* a busy machine takes longer than the default for some of these */
     if (options.on_keep != NULL) options.on_keep_context = &tracer;
     atomic_store(&told_keys, 0);
     memset(&tracer, 0, sizeof tracer);
@@ -340,16 +341,16 @@ static void gone_before_it_is_looked_at(void) {
 
 /* Paths that made room had been parked for so long at the least. */
 static void held_for(void) {
-    begin((dspec_tracer_options){ .lanes = 1, .paths = 2, .park_bytes = 1024, .park_ms = 3600000 });
+    begin((dspec_tracer_options){ .lanes = 1, .paths = 2, .park_bytes = 1024 });
+    const uint64_t began = dspec_tracer_now();
     for (uint64_t request = 1; request <= 3; request++) park(request, 10);
     is_noted();
-    const uint64_t began = dspec_tracer_now();
     usleep(300000);
     is_noted();
     for (uint64_t request = 4; request <= 6; request++) park(request, 10);
     is_noted();
     stop();
-    CHECK(report.park_evicted == 3 && report.park_least_ms >= 290 && report.park_least_ms <= (dspec_tracer_now() - began) / 1000000 + 100);
+    CHECK(report.park_evicted == 3 && report.park_least_ms >= 290 && report.park_least_ms <= (dspec_tracer_now() - began) / 1000000);
 }
 
 static void expired(void) {
