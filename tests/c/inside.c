@@ -673,6 +673,24 @@ enum { FULL_SIZE = 4096 };
 /* Rounds come where somebody rings. A keep waits where the consumer is slow to ask for the next buffer. */
 static const dspec_tracer_options full_options = { .lanes = 1, .paths = 2, .specsize = 128, .bufsize = FULL_SIZE, .period_ms = 1000000, .keep_ms = 20000, .no_crash = true, .no_term = true };
 
+#define FULL_FOLDER "/tmp/dspec-full-XXXXXX"
+
+/* A tracer of these options in a new folder: its lane. NULL: it doesn't start, or a check has failed, after which what waits for the consumer would wait in vain. */
+static struct lane *begin_full(dspec_tracer *tracer, char *folder) {
+    if (checks_failed > 0 || !CHECK(mkdtemp(folder) != NULL) || !CHECK(dspec_tracer_start(tracer, folder, &full_options, DSPEC_PROBES(query)))) return NULL;
+    return &tracer->body->lanes[0];
+}
+
+static dspec_tracer_report end_full(dspec_tracer *tracer, const char *folder) {
+    char words[80];
+    dspec_tracer_report report;
+    CHECK(dspec_tracer_stop(tracer, &report));
+    dspec_tracer_drop(tracer);
+    snprintf(words, sizeof words, "rm -rf '%s'", folder);
+    CHECK(system(words) == 0);
+    return report;
+}
+
 static bool is_given_back(const struct lane *lane, uint64_t batches) {
     enum { MOST_WAITS = 20000 };
     for (int waits = 0; waits < MOST_WAITS; waits++) {
@@ -695,29 +713,24 @@ static bool fills(dspec_tracer *tracer, uint64_t batches) {
 /* Each full buffer is written and asked for again, without a round: so a path finds room as often as it is. */
 static void *full_again_and_again(void *unused) {
     enum { ROUNDS = 5 };
-    char folder[] = "/tmp/dspec-full-XXXXXX", words[80];
-    dspec_tracer_report report;
+    char folder[] = FULL_FOLDER;
     static dspec_tracer tracer;
-    if (!CHECK(mkdtemp(folder) != NULL) || !CHECK(dspec_tracer_start(&tracer, folder, &full_options, DSPEC_PROBES(query)))) return unused;
-    struct lane *lane = &tracer.body->lanes[0];
+    struct lane *lane = begin_full(&tracer, folder);
+    if (lane == NULL) return unused;
     const uint64_t before = LOAD(&lane->given);
     bool is_well = true;
     for (uint64_t round = 1; is_well && round <= ROUNDS; round++) is_well = CHECK(fills(&tracer, before + round) && is_given_back(lane, before + round) && !LOAD(&lane->is_full));
-    CHECK(dspec_tracer_stop(&tracer, &report) && report.lost == 0 && report.accepted == report.kept);
-    dspec_tracer_drop(&tracer);
-    snprintf(words, sizeof words, "rm -rf '%s'", folder);
-    CHECK(system(words) == 0);
+    const dspec_tracer_report report = end_full(&tracer, folder);
+    CHECK(report.lost == 0 && report.accepted == report.kept);
     return unused;
 }
 
 /* While a full buffer is out a service switches nothing: a round asks for it still, and writes both buffers. */
 static void *asked_while_full(void *unused) {
-    char folder[] = "/tmp/dspec-full-XXXXXX", words[80];
-    dspec_tracer_report report;
+    char folder[] = FULL_FOLDER;
     static dspec_tracer tracer;
-    if (checks_failed > 0) return unused; /* what waits for the consumer would wait in vain once more */
-    if (!CHECK(mkdtemp(folder) != NULL) || !CHECK(dspec_tracer_start(&tracer, folder, &full_options, DSPEC_PROBES(query)))) return unused;
-    struct lane *lane = &tracer.body->lanes[0];
+    struct lane *lane = begin_full(&tracer, folder);
+    if (lane == NULL) return unused;
     const uint64_t before = LOAD(&lane->given);
     STORE(&tracer.body->quiet_until, UINT64_MAX); /* until this is over the consumer writes nothing */
     CHECK(fills(&tracer, before + 1) && LOAD(&lane->given) == before && LOAD(&lane->is_full));
@@ -728,21 +741,17 @@ static void *asked_while_full(void *unused) {
     STORE(&tracer.body->quiet_until, 0);
     consumer_wakes(tracer.body);
     CHECK(is_given_back(lane, before + 2) && LOAD(&lane->switched) == before + 2);
-    CHECK(dspec_tracer_stop(&tracer, &report) && report.lost == 0 && report.accepted == report.kept);
-    dspec_tracer_drop(&tracer);
-    snprintf(words, sizeof words, "rm -rf '%s'", folder);
-    CHECK(system(words) == 0);
+    const dspec_tracer_report report = end_full(&tracer, folder);
+    CHECK(report.lost == 0 && report.accepted == report.kept);
     return unused;
 }
 
 /* A service that puts a path's event into the next buffer isn't all that a round asked for: that writes this buffer too. */
 static void *asked_while_owing(void *unused) {
-    char folder[] = "/tmp/dspec-full-XXXXXX", words[80];
-    dspec_tracer_report report;
+    char folder[] = FULL_FOLDER;
     static dspec_tracer tracer;
-    if (checks_failed > 0) return unused; /* what waits for the consumer would wait in vain once more */
-    if (!CHECK(mkdtemp(folder) != NULL) || !CHECK(dspec_tracer_start(&tracer, folder, &full_options, DSPEC_PROBES(query)))) return unused;
-    struct lane *lane = &tracer.body->lanes[0];
+    struct lane *lane = begin_full(&tracer, folder);
+    if (lane == NULL) return unused;
     const uint64_t before = LOAD(&lane->given);
     dspec_path path = dspec_path_begin(&tracer);
     CHECK(query_in(&path, 1) == DSPEC_OK);
@@ -753,10 +762,8 @@ static void *asked_while_owing(void *unused) {
     CHECK(dspec_path_drop(&path) && lane->owes == OWES_NOTHING && LOAD(&lane->switched) == before + 1 && state_of(lane) & SERVE);
     consumer_wakes(tracer.body);
     CHECK(is_given_back(lane, before + 2) && !(state_of(lane) & SERVE));
-    CHECK(dspec_tracer_stop(&tracer, &report) && report.lost == 0 && report.thrown == 1);
-    dspec_tracer_drop(&tracer);
-    snprintf(words, sizeof words, "rm -rf '%s'", folder);
-    CHECK(system(words) == 0);
+    const dspec_tracer_report report = end_full(&tracer, folder);
+    CHECK(report.lost == 0 && report.thrown == 1);
     return unused;
 }
 
@@ -922,20 +929,17 @@ static void *records_keep_a_lane(void *unused) {
 static void *record_fills_a_kept_lane(void *unused) {
     enum { MOST_RECORDS = 4 * FULL_SIZE };
     dspec_tracer tracer = { 0 };
-    char folder[] = "/tmp/dspec-full-XXXXXX", words[80];
-    dspec_tracer_report report;
+    char folder[] = FULL_FOLDER;
     uint64_t made = 0;
-    if (!CHECK(mkdtemp(folder) != NULL) || !CHECK(dspec_tracer_start(&tracer, folder, &full_options, DSPEC_PROBES(query)))) return unused;
+    struct lane *lane = begin_full(&tracer, folder);
+    if (lane == NULL) return unused;
     const dspec_tracer_seat *mine = &dspec_seats[tracer.body->slot];
-    struct lane *lane = &tracer.body->lanes[0];
     const uint64_t before = LOAD(&lane->switched);
     STORE(&tracer.body->quiet_until, UINT64_MAX); /* until this is over the consumer writes nothing */
     while (made < MOST_RECORDS && query_now(&tracer, made) == DSPEC_OK) made++;
     CHECK(made > PATHS_BEFORE && made < MOST_RECORDS && made % 2 == 0 && rests(mine, lane) && LOAD(&tracer.body->no_room) == 1 && LOAD(&lane->switched) == before + 1);
-    CHECK(dspec_tracer_stop(&tracer, &report) && report.accepted == made && report.dropped == 1);
-    dspec_tracer_drop(&tracer);
-    snprintf(words, sizeof words, "rm -rf '%s'", folder);
-    CHECK(system(words) == 0);
+    const dspec_tracer_report report = end_full(&tracer, folder);
+    CHECK(report.accepted == made && report.dropped == 1);
     return unused;
 }
 
