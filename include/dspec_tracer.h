@@ -52,12 +52,14 @@
  *
  * CANCELLATION. No call here is a cancellation point. A thread that may be cancelled at any place (PTHREAD_CANCEL_ASYNCHRONOUS) makes none of these calls.
  *
- * ACROSS PROCESSES. A request may fail in one process when others that it went through have answered already. With park_bytes a path that has a key (dspec_path_key) is parked at
- * its end (dspec_path_park): its records are in a ring of its lane, and no slot is taken. A key that turns out to matter is told by dspec_tracer_keep_key, and all paths of
- * that key are kept, with DSPEC_WHY_KEY. on_keep tells the program of each key whose path was kept here for another reason, once while it is remembered, and after the path is
- * written where its lane can be had. On a full disk 4,096 keys wait for that, and then they are told before their paths are written. A crash calls on_keep too, before the
- * process ends, so that call is to take less than crash_ms. The program tells the other processes. A path stays parked for park_ms, and up to an eighth of that and a period longer, unless newer paths need its
- * room. Where an idle tracer has paths that are too old, they go before the next key is looked for. What is parked when a process ends is thrown away, and a crash keeps none of it.
+ * ACROSS PROCESSES. A request may fail in one process when others that it went through have answered already. With park_bytes a path that has a key (dspec_path_key) is
+ * parked at its end (dspec_path_park): its records are in a ring of its lane, and no slot is taken. A key that turns out to matter is told by dspec_tracer_keep_key, and
+ * all paths of that key are kept, with DSPEC_WHY_KEY. on_keep tells the program of each key whose path was kept here for another reason, once while it is remembered, and
+ * after the path is written. Where the disk is full, or a thread stays in a call on the path's lane, some 4,000 keys wait for that. Then they are told before their paths
+ * are written, as they are in a crash and at a stop, which don't wait. A crash calls on_keep before the process ends, so that call is to take less than crash_ms. With
+ * max_bytes what other threads keep meanwhile is written after the crash, and its keys are told then. The program tells the other processes. A path stays parked for
+ * park_ms, and up to an eighth of that and a period longer, unless newer paths need its room. Where an idle tracer has paths that are too old, they go before the next
+ * key is looked for. What is parked when a process ends is thrown away, and a crash keeps none of it.
  *
  * KILL -9. With survive all that the tracer has is in a file that outlives the process, FOLDER-memory, of mode 0600. dspec_salvage reads it. A stop takes the file
  * away; where it can't, the report's why says so. A crash takes it away if the folder has all that is in it. A start may find such a file of a run that didn't

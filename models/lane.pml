@@ -467,7 +467,7 @@ inline serve_if_asked(t, l) {
 #define PUSH_USE(t, l, v, r) PUSH(t, 1+2*NL+FLAG_OF(l, keeper[t]), v, r)
 
 inline flag_free(t, l) { atomic { DRAIN(t); in_use[FLAG_OF(l, keeper[t])] = 0; flag_taken[FLAG_OF(l, keeper[t])] = 0 } }
-/* Whether it is kept is left open, where it could be. is: its state as long as nobody is in the way. */
+/* Whether it is kept is left open, where it could be; it is in use until it rests. is: its state as long as nobody is in the way. */
 inline lane_keeps(t, l, is) {
 #ifdef KEEPS_ONCE
     skip
@@ -475,7 +475,7 @@ inline lane_keeps(t, l, is) {
     if
     :: atomic { DRAIN(t); gj = 0;
            do
-           :: gj < KEEPERS && keeper[t] == 0 -> if :: !flag_taken[(l)*KEEPERS+gj] -> flag_taken[(l)*KEEPERS+gj] = 1; keeper[t] = gj+1 :: else fi; gj++
+           :: gj < KEEPERS && keeper[t] == 0 -> if :: !flag_taken[(l)*KEEPERS+gj] -> flag_taken[(l)*KEEPERS+gj] = 1; in_use[(l)*KEEPERS+gj] = 1; keeper[t] = gj+1 :: else fi; gj++
            :: else -> break
            od; gj = 0 };
        if
@@ -510,6 +510,14 @@ inline lane_is_kept(t, l, but) {
     if :: (s & ~(but)) == RESTS(t) -> cas = 1 :: else -> atomic { HAS_ROOM(t) -> PUSH_USE(t, l, 0, 1) } fi;
 #endif
     s = 0
+}
+/* The same, where it is the thread's own then. */
+inline lane_resumes(t, l, but) {
+#ifndef F_RESUMES_UNSAID
+    A_ plain[t] = 0 _A;
+#endif
+    lane_is_kept(t, l, but);
+    if :: cas -> A_ seat_owns(t, l) _A :: else -> A_ plain[t] = 1 _A fi
 }
 /* The thread keeps the lane no longer that it had last: `kept` says whether it did until now. */
 inline lane_unkeep(t, gone) {
@@ -578,12 +586,11 @@ inline lane_rests(t, l, isown) {
     if :: isown && keeper[t] != 0 -> atomic { HAS_ROOM(t) -> PUSH_USE(t, l, 0, 1) } :: else fi;
 #endif
     if
-    :: isown && openc[t] == 1 && keeper[t] != 0 ->
-        atomic { HAS_ROOM(t) -> PUSH_USE(t, l, 0, 1); cas = 1 }
+    :: isown && openc[t] == 1 && keeper[t] != 0 -> cas = 1
     :: isown && openc[t] == 1 && keeper[t] == 0 -> lane_keeps(t, l, 2*USER)
     :: else
     fi;
-    if :: cas -> A_ openc[t] = 0; seat_owns(t, NOBODY) _A :: else fi
+    if :: cas -> A_ openc[t] = 0; seat_owns(t, NOBODY) _A; atomic { HAS_ROOM(t) -> PUSH_USE(t, l, 0, 1) } :: else fi
 #else
     skip
 #endif
@@ -644,12 +651,13 @@ inline take_back(t) {
     atomic { assert(openc[t] >= handed[own[t]]); openc[t] = openc[t] - handed[own[t]]; handed[own[t]] = 0 };
     if
     :: openc[t] == 0 ->
-        on = own[t]; A_ seat_owns(t, NOBODY) _A;
+        on = own[t];
 #ifdef KEEPS
         if :: keeper[t] != 0 -> lane_unkeep(t, 1); kept = 0 :: else -> atomic { DRAIN(t); st[on] = st[on] - USER; assert(st[on] >= 0) } fi;
 #else
         atomic { DRAIN(t); st[on] = st[on] - USER; assert(st[on] >= 0) };
 #endif
+        A_ seat_owns(t, NOBODY) _A;
         hands_on[t] = 1; on = NOBODY
     :: else
     fi
@@ -674,9 +682,9 @@ inline lane_for_path(t) {
 #ifdef KEEPS
     if
     :: own[t] == NOBODY && keeper[t] != 0 ->
-        /* is_kept_still */
+        /* is_own_again */
         assert(hands_on[t] == 0);
-        lane_is_kept(t, last[t], ANYONE);
+        lane_resumes(t, last[t], ANYONE);
         if :: cas -> cas = 0; kept = 1 :: else -> lane_unkeep(t, 0) fi;
         if :: kept -> A_ on = last[t]; seat_owns(t, on); kept = 0 _A :: else fi
     :: else
@@ -750,7 +758,7 @@ inline begin_on_last(t, p) {
     :: plane[p] == NOBODY && plain[t] && hands_on[t] == 0 ->
         on = last[t];
 #ifdef KEEPS
-        if :: keeper[t] != 0 -> lane_is_kept(t, on, 0) :: else -> lane_claim_last(t, on) fi;
+        if :: keeper[t] != 0 -> lane_resumes(t, on, 0) :: else -> lane_claim_last(t, on) fi;
 #else
         lane_claim_last(t, on);
 #endif
@@ -1028,7 +1036,8 @@ inline record_by_lock(t) {
             if
             :: in -> MAY_FILL(t, on); lane_leave_locked(t, on); done = 1;
 #ifdef KEEPS
-                if :: hands_on[t] == 0 -> lane_keeps(t, on, 0); cas = 0 :: else fi
+                if :: hands_on[t] == 0 -> lane_keeps(t, on, 0) :: else fi;
+                if :: cas -> atomic { HAS_ROOM(t) -> PUSH_USE(t, on, 0, 1); cas = 0 } :: else fi
 #endif
             :: else
             fi
@@ -1044,8 +1053,8 @@ inline lane_for_record(t) {
 #ifdef KEEPS
     if
     :: own[t] == NOBODY && keeper[t] != 0 ->
-        lane_is_kept(t, last[t], ANYONE);
-        if :: cas -> A_ cas = 0; seat_owns(t, last[t]); isown = 1 _A :: else -> lane_unkeep(t, 2); kept = 0 fi
+        lane_resumes(t, last[t], ANYONE);
+        if :: cas -> A_ cas = 0; isown = 1 _A :: else -> lane_unkeep(t, 2); kept = 0 fi
     :: else
     fi;
 #endif
@@ -1094,11 +1103,11 @@ inline record_slowly(t) {
     A_ x = 0; in = 0; isown = 0; on = NOBODY _A
 }
 #ifdef KEEPS
-/* A lane that is kept rests after a record alone, as its thread sees it; else no other could take it over. */
+/* A lane that is kept rests after a record alone, as its thread sees it; else no other could take it over. A handler may have come into its thread's use of the lane. */
 inline assert_rests(t) {
     d_step {
         if
-        :: own[t] == NOBODY && keeper[t] != 0 -> gi = FLAG_OF(last[t], keeper[t]); x = in_use[gi]; load(t, 1+2*NL+FLAG_OF(last[t], keeper[t]), x); assert(!x)
+        :: own[t] == NOBODY && keeper[t] != 0 && (_pid < NT || plain[t]) -> gi = FLAG_OF(last[t], keeper[t]); x = in_use[gi]; load(t, 1+2*NL+FLAG_OF(last[t], keeper[t]), x); assert(!x)
         :: else
         fi; x = 0; gi = 0 }
 }

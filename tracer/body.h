@@ -304,7 +304,7 @@ way lane_enter_slowly(dspec_tracer_seat *seat, struct lane *lane);
 struct lane *lane_for_path(body *tracer, dspec_tracer_seat *seat); /* one more path is on it; NULL where none has room */
 struct lane *lane_shared(body *tracer, uint32_t number); /* likewise, on this one */
 struct lane *lane_for_record(body *tracer, dspec_tracer_seat *seat, bool *as_path); /* as_path: it is the thread's own for this record, as for a path, and is let go as after one */
-bool lane_keeps(dspec_tracer_seat *seat, struct lane *lane, uint32_t state); /* whether the thread keeps the lane that it had alone last, from now on; state: the lane's, where nobody else is on it */
+bool lane_keeps(dspec_tracer_seat *seat, struct lane *lane, uint32_t state); /* whether the thread keeps the lane that it had alone last, from now on; it is in use until it rests; state: the lane's, where nobody else is on it */
 void lanes_give_up(dspec_tracer_seat *seat); /* the thread's own lane, and the one that it keeps */
 /* The consumer's: whether it has the lane, between two calls. With GONE in bits no thread gets in any more. */
 bool lane_take(struct lane *lane, uint32_t bits, patience *left);
@@ -546,7 +546,18 @@ static inline void lane_path_off(dspec_tracer_seat *seat, struct lane *lane, boo
     __atomic_fetch_sub(&lane->front.state, users * USER, __ATOMIC_SEQ_CST);
 }
 
-static inline bool lane_is_kept(const dspec_tracer_seat *seat, struct lane *lane, uint32_t but) { return dspec_tracer_uses_(&lane->front, seat->kept, but); }
+/* Makes the lane that a thread keeps its own again, as for a path: whether it is. A handler's record has that lane rest, so `plain` says first that there is no room for one. but: bits of its state that are no
+ * matter. */
+static inline bool lane_resumes(dspec_tracer_seat *seat, struct lane *lane, uint32_t but) {
+    STORE(&seat->plain, DSPEC_TRACER_NONE_);
+    __atomic_signal_fence(__ATOMIC_SEQ_CST);
+    if (LIKELY(dspec_tracer_uses_(&lane->front, seat->kept, but))) {
+        seat->own = &lane->front;
+        return true;
+    }
+    STORE(&seat->plain, seat->run);
+    return false;
+}
 
 /* Claims a lane for a path, where nobody is on it and none of its bits is set, and the thread doesn't hand its paths on: whether it has it. */
 static inline bool lane_claim(struct lane *lane) {
@@ -558,7 +569,8 @@ static inline bool lane_claim(struct lane *lane) {
 
 /* Makes the lane that a thread had last its own, for a path, where it keeps that or can claim it: whether it is. */
 static inline bool lane_claim_last(dspec_tracer_seat *seat, struct lane *lane) {
-    if (!LIKELY(LIKELY(seat->kept != 0) ? lane_is_kept(seat, lane, 0) : lane_claim(lane))) return false;
+    if (LIKELY(seat->kept != 0)) return lane_resumes(seat, lane, 0);
+    if (!LIKELY(lane_claim(lane))) return false;
     seat->own = &lane->front;
     STORE(&seat->plain, DSPEC_TRACER_NONE_);
     return true;

@@ -111,6 +111,27 @@ static uint64_t drain(body *tracer, uint64_t which) {
     return each_lane(tracer, which, TAKE_US, drain_lane, NULL);
 }
 
+/* Drains all lanes: which ones have something still, since they can't be had or wait for the disk. */
+static uint64_t write_all(body *tracer) {
+    uint64_t left = drain(tracer, all_of(tracer));
+    for (uint32_t i = 0; i < tracer->count; i++) left |= (uint64_t)LOAD(&tracer->lanes[i].waits_for_disk) << i;
+    return left;
+}
+
+/* The keeper's turn. Where too many keys wait for their paths to be written, that is done first. Those whose paths can't be written now are told all the same, where they are too many still. */
+static void turn_keeper(body *tracer) {
+    if (keeper_is_full(tracer->keeper)) keeper_tells(tracer, write_all(tracer));
+    if (keeper_is_full(tracer->keeper)) keeper_tells(tracer, 0);
+    keeper_turns(tracer);
+}
+
+/* Hears all keys that came until now, but for those after one that is still being put. */
+static void hear_all(body *tracer) {
+    const uint64_t came = keys_count(tracer->keys);
+    do turn_keeper(tracer);
+    while (!keys_are_heard(tracer->keys, came) && keys_are_waiting(tracer->keys));
+}
+
 /* A flush is served as each lane was found empty since it was asked for; those that weren't are tried again in the next turn. */
 static void serve_flush(body *tracer, uint32_t asked) {
     const bool is_new = tracer->flushed != asked;
@@ -430,6 +451,19 @@ static bool has_crash(const body *tracer) {
     return false;
 }
 
+/* What is on its way of other threads, and the keys of that, which are heard before it is written. */
+static void write_others(body *tracer) {
+    if (tracer->keeper != NULL) hear_all(tracer);
+    drain(tracer, all_of(tracer));
+}
+
+/* With a bound nothing of other threads is written after a crash: so of the keys that are heard then, those of the crash alone are told. Once the others are told, there is room for as many as may wait to be heard. */
+static void tell_keys_of_crash(body *tracer) {
+    keeper_tells(tracer, 0);
+    hear_all(tracer);
+    keeper_tells(tracer, all_of(tracer));
+}
+
 /* What all threads that crashed had open is written before one of their handlers goes on. The crash comes before what is on its way of other threads, so that it is there where the time is over;
  * with a bound on disk it comes after that, which might push it out. */
 static void save_crashes(body *tracer) {
@@ -437,7 +471,7 @@ static void save_crashes(body *tracer) {
     bool is_saved[MAX_CRASHES] = { false };
     uint32_t saved = 0;
     if (!has_crash(tracer)) return;
-    if (is_bounded) drain(tracer, all_of(tracer));
+    if (is_bounded) write_others(tracer);
     for (uint32_t i = 0; i < MAX_CRASHES; i++) {
         const struct crash *crash = &tracer->crashes[i];
         if (__atomic_load_n(&crash->state, __ATOMIC_ACQUIRE) != CRASH_READY) continue;
@@ -449,9 +483,9 @@ static void save_crashes(body *tracer) {
     }
     tell_unsaved(tracer, saved);
     tell_own(tracer, true);
-    if (tracer->keeper != NULL) keeper_turns(tracer); /* what it hears is drained before it is told */
-    if (!is_bounded) drain(tracer, all_of(tracer));
-    if (tracer->keeper != NULL) keeper_tells(tracer, 0);
+    if (!is_bounded) write_others(tracer);
+    if (tracer->keeper != NULL && is_bounded) tell_keys_of_crash(tracer);
+    else if (tracer->keeper != NULL) keeper_tells(tracer, 0);
     for (uint32_t i = 0; i < MAX_CRASHES; i++)
         if (is_saved[i]) crash_is_saved(tracer, &tracer->crashes[i]);
 }
@@ -523,8 +557,7 @@ static void end_all(body *tracer) {
     int code;
     STORE(&tracer->up, 0);
     STORE(&tracer->front->up, 0);
-    for (bool is_first = true; tracer->keeper != NULL && (is_first || keys_are_waiting(tracer->keys)); is_first = false) keeper_turns(tracer);
-    drain(tracer, all_of(tracer));
+    write_others(tracer);
     for (uint32_t i = 0; i < tracer->count; i++) state_set(&tracer->lanes[i], GONE);
     tracer->report.stuck_lanes += (uint32_t)__builtin_popcountll(each_lane(tracer, all_of(tracer), CLOSE_US, end_lane, NULL));
     tell_own(tracer, true);
@@ -551,7 +584,7 @@ static bool turn(body *tracer) {
     tracer->is_pressed = false;
     clock_tell(tracer, false);
     save_crashes(tracer);
-    if (tracer->keeper != NULL && !is_last && dspec_monotonic() >= tracer->quiet_until) keeper_turns(tracer);
+    if (tracer->keeper != NULL && !is_last && dspec_monotonic() >= tracer->quiet_until) turn_keeper(tracer);
     tell_own(tracer, asked != tracer->flushed);
     if (asked != tracer->served) serve_flush(tracer, asked);
     if (!is_last && dspec_monotonic() >= tracer->quiet_until) make_turn(tracer, is_pressed);

@@ -156,10 +156,11 @@ static dspec_status keep_parts(struct lane *lane, open_path *path, uint32_t plac
     return status == DSPEC_OK || status == DSPEC_BUSY ? status : DSPEC_LOST;
 }
 
-/* A path that is kept since its key was tells nobody of that. */
-static void path_tells_key(const struct lane *lane, const open_path *opened) {
+/* A path that is kept since its key was tells nobody of that. What the consumer keeps is written before its key is heard, but on a disk that is waited for, so that it counts as on the consumer's own lane. */
+static void path_tells_key(const struct lane *lane, const open_path *opened, room has) {
     body *tracer = lane->tracer;
-    if (tracer->keys != NULL && keys_put(tracer->keys, opened->key, lane->number) && tracer->options.on_keep != NULL) consumer_wakes(tracer);
+    const uint32_t number = has == EMPTY_ROOM && !kept_waits_for_disk(tracer) ? tracer->count : lane->number;
+    if (tracer->keys != NULL && keys_put(tracer->keys, opened->key, number) && tracer->options.on_keep != NULL) consumer_wakes(tracer);
 }
 
 dspec_status path_commit(struct lane *lane, uint32_t place, uint64_t id, uint32_t why, room has) {
@@ -180,6 +181,6 @@ dspec_status path_commit(struct lane *lane, uint32_t place, uint64_t id, uint32_
     STORE(&lane->cut_records, lane->cut_records + opened->cut);
     STORE(&lane->cut, lane->cut + (status == DSPEC_OK && opened->untold > 0));
     if (status == DSPEC_OK && !LIKELY(opened->has_event)) tell_after_path(lane, opened, path.begun, why, has);
-    if (status == DSPEC_OK && opened->key_state == HAS_KEY) path_tells_key(lane, opened);
+    if (status == DSPEC_OK && opened->key_state == HAS_KEY) path_tells_key(lane, opened, has);
     return status;
 }

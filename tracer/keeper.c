@@ -237,12 +237,12 @@ static void count_missed(body *tracer, const parked_paths *parked, watched *watc
     watch->gone = gone;
 }
 
+bool keeper_is_full(const struct keeper *keeper) { return MOST_UNTOLD - keeper->untold_count < KEYS_AT_ONCE; }
+
 /* Hears the keys that came. The program is to be told of those that were kept here. */
 static void hear(body *tracer) {
     struct keeper *keeper = tracer->keeper;
-    size_t most;
-    if (keeper->untold_count == MOST_UNTOLD) keeper_tells(tracer, 0); /* on a disk that stays full a key is told before its path is written */
-    most = MOST_UNTOLD - keeper->untold_count;
+    const size_t most = MOST_UNTOLD - keeper->untold_count;
     keeper->fresh_count = keys_hear(tracer->keys, keeper->now_ms, most < KEYS_AT_ONCE ? most : KEYS_AT_ONCE, keeper->fresh);
     for (size_t i = 0; i < keeper->fresh_count; i++)
         if (keeper->fresh[i].lane != TOLD_KEY && tracer->options.on_keep != NULL) keeper->untold[keeper->untold_count++] = keeper->fresh[i];
@@ -294,10 +294,7 @@ void keeper_tells(body *tracer, uint64_t unwritten) {
 }
 
 void keeper_ends(body *tracer) {
-    do {
-        hear(tracer);
-        keeper_tells(tracer, 0);
-    } while (keys_are_waiting(tracer->keys));
+    for (keeper_tells(tracer, 0); keys_are_waiting(tracer->keys); keeper_tells(tracer, 0)) hear(tracer);
 }
 
 bool keeper_flushes(body *tracer, bool is_new) {

@@ -114,11 +114,11 @@ INTO_CALLER bool claims(const body *tracer, dspec_tracer_seat *seat, struct lane
 
 /* ---- A lane that is kept between paths. ---- */
 
-/* A flag that no thread has; NULL: each is some thread's. */
+/* A flag that no thread has, which is in use from now on; NULL: each is some thread's. */
 static uint8_t *free_flag(struct lane *lane) {
     for (size_t number = 1; number <= FLAGS; number++) {
         uint8_t is = FREE_FLAG;
-        if (__atomic_compare_exchange_n(&lane->front.uses[number], &is, RESTS, false, __ATOMIC_SEQ_CST, __ATOMIC_SEQ_CST)) return &lane->front.uses[number];
+        if (__atomic_compare_exchange_n(&lane->front.uses[number], &is, IN_USE, false, __ATOMIC_SEQ_CST, __ATOMIC_SEQ_CST)) return &lane->front.uses[number];
     }
     return NULL;
 }
@@ -208,17 +208,17 @@ static struct lane *claim(body *tracer, dspec_tracer_seat *seat, uint32_t users)
 
 void lanes_give_up(dspec_tracer_seat *seat) {
     struct lane *own = lane_of(seat->own);
-    seat_owns(seat, NULL);
     if (seat->kept != 0) lane_unkeep(seat, own != NULL ? 1 : 2);
     else if (own != NULL) __atomic_fetch_sub(&own->front.state, USER, __ATOMIC_SEQ_CST);
+    seat_owns(seat, NULL); /* a handler's record may come from here on */
 }
 
-/* Uses the lane again that a thread keeps, also where the consumer has something to do there. */
-static bool is_kept_still(dspec_tracer_seat *seat) { return lane_is_kept(seat, lane_of(seat->last), HELD | GONE | SERVE | IDLE | WANTED); }
+/* Makes the lane its own again that a thread keeps, also where the consumer has something to do there: whether it is. */
+static bool resumes_kept(dspec_tracer_seat *seat) { return lane_resumes(seat, lane_of(seat->last), HELD | GONE | SERVE | IDLE | WANTED); }
 
 /* Whether the lane that a thread keeps is its own again, for a path: it may be taken, wanted or shared. */
 RARELY static bool is_own_again(dspec_tracer_seat *seat) {
-    if (is_kept_still(seat) || lane_unkeep(seat, 0)) seat_owns(seat, seat->last);
+    if (!resumes_kept(seat) && lane_unkeep(seat, 0)) seat_owns(seat, seat->last);
     return seat->own != NULL;
 }
 
@@ -263,10 +263,7 @@ struct lane *lane_for_path(body *tracer, dspec_tracer_seat *seat) {
 
 /* The lane that a thread keeps, or one that nobody is on, before one that another thread keeps and doesn't use. */
 static struct lane *quiet_lane(body *tracer, dspec_tracer_seat *seat) {
-    if (seat->kept != 0 && is_kept_still(seat)) {
-        seat_owns(seat, seat->last);
-        return lane_of(seat->last);
-    }
+    if (seat->kept != 0 && resumes_kept(seat)) return lane_of(seat->last);
     lanes_give_up(seat); /* one that another thread wants */
     for (uint32_t i = 0; i < tracer->count; i++) {
         struct lane *lane = lane_after(tracer, seat, i);

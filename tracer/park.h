@@ -111,6 +111,8 @@ void taken_writes(struct dspec_tracer_body *tracer, struct lane *lane); /* as a 
 
 struct keeper *keeper_new(const struct dspec_tracer_body *tracer);
 void keeper_drop(struct keeper *keeper);
+/* Whether fewer keys may wait to be told than are heard in a turn: then some are to be told before the next one. */
+bool keeper_is_full(const struct keeper *keeper);
 /* Before the lanes are served: hears keys, keeps what is parked by them, and has what is too old expire. What finds no room on the disk stays parked. */
 void keeper_turns(struct dspec_tracer_body *tracer);
 /* After that: keeps what was parked meanwhile on these lanes. A lane that was found empty gets a call before anything more is parked there. */

@@ -363,7 +363,7 @@ INTO_CALLER bool record_by_lock(dspec_tracer *tracer, const dspec_event *event, 
     if (is_in) {
         *status = fill(lane, event, words, n);
         lane_leave_locked(lane);
-        if (LIKELY(dspec_here.hands_on == 0) && LIKELY(!lane->tracer->by_thread)) lane_keeps(seat, lane, 0);
+        if (LIKELY(dspec_here.hands_on == 0) && LIKELY(!lane->tracer->by_thread) && !LIKELY(!lane_keeps(seat, lane, 0))) lane_rests(seat, lane);
     }
     seat_leave(seat);
     if (is_in && !LIKELY(*status == DSPEC_OK)) missed(lane->tracer, event, *status);

@@ -326,12 +326,14 @@ static bool is_told(saved_file *file, const struct told *told, dspec_batch *batc
     return told->what == FOUND_PARKED ? is_of_path(file, told->path, batch) && has_times(file, batch) : is_meant(file, told, batch);
 }
 
+/* A path's first record comes before its place is noted: until then that has what was noted of the path before. */
 static bool hand_out(const saved_file *file, const struct told *told, const dspec_batch *batch, found_call get, void *to) {
     const open_path *opened = &file->tracer->lanes[batch->cpu].open[told->place];
+    const bool is_noted = told->what == FOUND_OPEN && opened->mark != 0;
     size_t at = 0;
     found_batch found = { (found_kind)told->what, told->place, *batch, 0, { told->key[0], told->key[1] }, told->path, file->tracer->lanes[batch->cpu].before, 0 };
-    if (told->what == FOUND_OPEN && opened->key_state != NO_KEY) memcpy(found.key, opened->key, sizeof found.key);
-    if (told->what == FOUND_OPEN) found.thread = opened->thread;
+    if (is_noted && opened->key_state != NO_KEY) memcpy(found.key, opened->key, sizeof found.key);
+    if (is_noted) found.thread = opened->thread;
     found.records = dspec_folder_skips_(&file->layout, batch, &at, UINT64_MAX);
     return get(to, &found);
 }

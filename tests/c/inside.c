@@ -398,7 +398,9 @@ static void keeps_after_records(void) {
     lane->handed = 3; /* of the thread whose own it was before */
     for (int i = 1; i < PATHS_BEFORE; i++) CHECK(!lane_keeps(me, lane, 0));
     CHECK(is(lane, 0) && is_not_kept(lane));
-    CHECK(lane_keeps(me, lane, 0) && is_at_rest(lane) && lane->handed == 0);
+    CHECK(lane_keeps(me, lane, 0) && lane->front.uses[1] == IN_USE && lane->handed == 0); /* nobody takes it over before others' ends are forgotten */
+    lane_rests(me, lane);
+    CHECK(is_at_rest(lane));
     begin();
     lane = fresh(0, SERVE);
     for (int i = 1; i <= PATHS_BEFORE; i++) CHECK(!lane_keeps(me, lane, 0));

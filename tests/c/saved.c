@@ -170,6 +170,7 @@ static struct {
     uint32_t place;
     uint64_t drops, records;
     uint32_t first; /* the value of its first record */
+    uint32_t thread;
     uint64_t key[2];
 } found[MOST_FOUND];
 static size_t founds;
@@ -182,6 +183,7 @@ static bool finds(void *of, found_batch *batch) {
     found[founds].drops = batch->batch.drops;
     found[founds].records = batch->records;
     found[founds].first = batch->batch.len >= RECORD ? (uint32_t)dspec_number_at(batch->batch.bytes + RECORD - 4, 4) : 0;
+    found[founds].thread = batch->thread;
     memcpy(found[founds].key, batch->key, sizeof batch->key);
     CHECK(batch->batch.len == batch->records * RECORD);
     founds++;
@@ -202,6 +204,8 @@ static void tell(struct told event, uint32_t records, uint64_t stamp) {
 static void tell_word(uint32_t what) { tell((struct told){ .what = what }, 0, 0); }
 
 /* Whether all is well that was told, in a memory whose speculations have so many bytes; the pipe is empty then. */
+static uint64_t last_mark = UINT64_C(10) << 32; /* of the path at the last place */
+
 static bool is_heard(uint32_t specsize) {
     static saved_head head;
     static saved_file file;
@@ -212,6 +216,8 @@ static bool is_heard(uint32_t specsize) {
     head.specsize = specsize;
     file.head = &head;
     file.tracer = (body *)(void *)of_tracer;
+    file.tracer->lanes[0].open[MAX_OPEN - 1].mark = last_mark;
+    file.tracer->lanes[0].open[MAX_OPEN - 1].thread = 73;
     file.tracer->lanes[0].open[MAX_OPEN - 1].key_state = HAS_KEY;
     file.tracer->lanes[0].open[MAX_OPEN - 1].key[0] = 71;
     file.tracer->lanes[0].open[MAX_OPEN - 1].key[1] = 72;
@@ -254,7 +260,12 @@ static void keys(void) {
     tell((struct told){ .what = FOUND_PARKED, .key = { 91, 92 }, .path = 7 }, 0, 5);
     tell_word(TELLS_END);
     CHECK(is_heard(64) && founds == 4 && has_key(0, 71, 72) && has_key(1, 0, 0) && has_key(2, 81, 82) && has_key(3, 91, 92));
-    CHECK(is_found(2, FOUND_PARKED, 0, 0, 1, 10) && is_found(3, FOUND_PARKED, 0, 0, 0, 0));
+    CHECK(is_found(2, FOUND_PARKED, 0, 0, 1, 10) && is_found(3, FOUND_PARKED, 0, 0, 0, 0) && found[0].thread == 73 && found[1].thread == 0);
+    last_mark = 0; /* its place isn't noted yet, and has the key of the path before */
+    tell((struct told){ .what = FOUND_OPEN, .place = MAX_OPEN - 1, .count = 1 }, 1, 5);
+    tell_word(TELLS_END);
+    CHECK(is_heard(64) && founds == 1 && has_key(0, 0, 0) && found[0].thread == 0);
+    last_mark = UINT64_C(10) << 32;
     tell((struct told){ .what = FOUND_PARKED, .key = { 81, 82 }, .path = 11 }, 1, 5);
     tell_word(TELLS_END);
     CHECK(!is_heard(64));

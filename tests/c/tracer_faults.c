@@ -11,10 +11,13 @@
 #include <fcntl.h>
 #include <pthread.h>
 #include <semaphore.h>
+#include <setjmp.h>
 #include <signal.h>
+#include <stdarg.h>
 #include <stdatomic.h>
 #include <sys/resource.h>
 #include <sys/stat.h>
+#include <sys/syscall.h>
 #include <unistd.h>
 
 #ifndef LOCALS
@@ -69,24 +72,28 @@ static void stay(int signal) {
     while (!may_leave) usleep(1000);
 }
 
-static void *calls(void *unused) {
-    callers = dspec_path_begin(&tracer);
-    query_in(&callers, 1, 0);
+static void *calls_on(void *unused) {
     has_begun = true;
     while (!is_over) query_in(&callers, 1, 0);
     dspec_path_drop(&callers);
     return unused;
 }
 
-static void start_caller(void) {
+static void *calls(void *unused) {
+    callers = dspec_path_begin(&tracer);
+    query_in(&callers, 1, 0);
+    return calls_on(unused);
+}
+
+static void start_caller(void *(*runs)(void *)) {
     const struct sigaction action = { .sa_handler = stay, .sa_flags = SA_RESTART };
     sigaction(SIGUSR1, &action, NULL);
-    pthread_create(&caller, NULL, calls, NULL);
+    pthread_create(&caller, NULL, runs, NULL);
     while (!has_begun) usleep(100);
 }
 
 static void make_caller_stay(void) {
-    if (!has_begun) start_caller();
+    if (!has_begun) start_caller(calls);
     while (!is_inside) {
         pthread_kill(caller, SIGUSR1);
         usleep(100);
@@ -170,7 +177,7 @@ static void mode_left(void) {
     dspec_tracer_report report;
     dspec_path path;
     begin((dspec_tracer_options){ .lanes = 1, .paths = 2, .period_ms = 100000 });
-    start_caller();
+    start_caller(calls);
     path = dspec_path_begin(&tracer);
     CHECK(query_in(&path, 4, 0) == DSPEC_OK);
     make_caller_stay();
@@ -189,16 +196,19 @@ static void mode_left(void) {
 ssize_t __real_write(int file, const void *bytes, size_t len);
 ssize_t __wrap_write(int file, const void *bytes, size_t len);
 static _Atomic bool writes_stand, is_writing, is_full;
-
-static _Atomic bool lets_go;
+static void (*_Atomic before_write)(const uint8_t *bytes, size_t len);
 static sem_t may_go, has_gone;
 
+/* Another thread does something before the write. */
+static void let_go(const uint8_t *bytes, size_t len) {
+    (void)bytes, (void)len;
+    before_write = NULL;
+    sem_post(&may_go);
+    sem_wait(&has_gone);
+}
+
 ssize_t __wrap_write(int file, const void *bytes, size_t len) {
-    if (lets_go && len >= 1024) {
-        lets_go = false;
-        sem_post(&may_go);
-        sem_wait(&has_gone);
-    }
+    if (before_write != NULL && len >= 1024) before_write(bytes, len);
     while (writes_stand && len >= 1024) {
         is_writing = true;
         usleep(1000);
@@ -229,7 +239,7 @@ static void mode_half(void) {
     uint64_t before;
     pthread_t keeper;
     begin((dspec_tracer_options){ .lanes = 1, .paths = 2, .bufsize = 512, .specsize = 256, .keep_last = true, .keep_ms = 600000, .period_ms = 1000000 });
-    start_caller();
+    start_caller(calls);
     CHECK(tick_now(&tracer, 1) == DSPEC_OK && dspec_tracer_flush(&tracer, 60000)); /* the tracer has told of its threads, and has nothing else to write */
     writes_stand = true;
     CHECK(tick_now(&tracer, 1) == DSPEC_OK && !dspec_tracer_flush(&tracer, 1));
@@ -515,26 +525,34 @@ static void mode_full_for_a_while(void) {
     are_told(&report);
 }
 
-/* ---- A key is told after its path is written, which the callback looks for in the trace's only file of records. ---- */
+/* ---- A key is told after its path is written, which the callback looks for in the lanes' files of the trace. ---- */
 
 enum { OF_PATHS = 0x1000000, IN_FULL_BUFFERS = 20000, FULL_PLAYS = 6, FULL_TIMES = 5, TOLD_WITHIN_MS = 60000, FILE_SIZE = 1 << 22 }; /* the first of the requests, which no other number in the file is like */
 static _Atomic uint32_t told_keys, told_early;
-static size_t found_before; /* so many bytes of the file */
+enum { MOST_FILES = 2 };
+static size_t found_before[MOST_FILES]; /* so many bytes of each file */
+static const char *part = ""; /* after the folder's name, with a bound */
 
 static const uint8_t *find_number(const uint8_t *from, const uint8_t *end, uint64_t number) { return from == NULL || from >= end ? NULL : memmem(from, (size_t)(end - from), &number, sizeof number); }
 
-/* Whether the file has a request's record, and then the event of its path, which has the request as its key. Each path is after the one before it. */
-static bool has_path(uint64_t request) {
+/* Whether a lane's file has a request's record, and then the event of its path, which has the request as its key. Each path is after the one before it. */
+static bool file_has_path(size_t number, uint64_t request) {
     static uint8_t bytes[FILE_SIZE];
     char path[4400];
-    snprintf(path, sizeof path, "%s/cpu_0_0", folder);
+    snprintf(path, sizeof path, "%s%s/cpu_%zu_0", folder, part, number);
     const int file = open(path, O_RDONLY | O_CLOEXEC);
-    const ssize_t len = pread(file, bytes, sizeof bytes, (off_t)found_before);
+    const ssize_t len = pread(file, bytes, sizeof bytes, (off_t)found_before[number]);
     const uint8_t *const end = bytes + (len > 0 ? len : 0), *const record = find_number(bytes, end, request);
     const uint8_t *const event = record == NULL ? NULL : find_number(record + sizeof request, end, request);
     close(file);
-    if (event != NULL) found_before += (size_t)(event - bytes);
+    if (event != NULL) found_before[number] += (size_t)(event - bytes);
     return event != NULL;
+}
+
+static bool has_path(uint64_t request) {
+    for (size_t number = 0; number < MOST_FILES; number++)
+        if (file_has_path(number, request)) return true;
+    return false;
 }
 
 static void looks_for_path(void *unused, uint64_t high, uint64_t low) {
@@ -556,7 +574,7 @@ static void all_are_told(uint32_t due) {
 
 /* Buffers get full one after another, and their thread begins the other one itself or is asked for that. A path's event has no room among its records, and now and then none in their buffer. */
 static void fills_buffers(void) {
-    found_before = told_keys = 0;
+    found_before[0] = told_keys = 0;
     begin((dspec_tracer_options){ .lanes = 1, .paths = 2, .specsize = 64, .bufsize = 1024, .period_ms = 1, .keep_ms = TOLD_WITHIN_MS, .park_bytes = 4096, .on_keep = looks_for_path });
     for (uint64_t i = 0; i < IN_FULL_BUFFERS; i++) keep_with_key(OF_PATHS + i);
     all_are_told(IN_FULL_BUFFERS);
@@ -711,14 +729,144 @@ static void mode_parked_beside_flush(void) {
     CHECK(dspec_tracer_flush(&tracer, MAY_WAIT_MS));
     path = with_key(2);
     CHECK(dspec_path_drop(&path)); /* the flush tells that one was thrown away: that is the write in its turn */
-    lets_go = true;
-    CHECK(dspec_tracer_flush(&tracer, MAY_WAIT_MS) && !lets_go);
+    before_write = let_go;
+    CHECK(dspec_tracer_flush(&tracer, MAY_WAIT_MS) && before_write == NULL);
     for (int waits = 0; counts().park_kept == 0 && waits < TOLD_WITHIN_MS; waits++) usleep(1000);
     CHECK(!dspec_path_drop(&left_open));
     sem_post(&may_go);
     pthread_join(thread, NULL);
     report = ended(true);
     CHECK(report.park_kept == 1 && report.kept == 2 && report.thrown == 1 && report.key_missed == 0);
+}
+
+/* ---- The consumer stays in the callback until the program goes on to a crash or a stop: so many keys wait to be heard by then. ---- */
+
+long __real_syscall(long number, ...);
+long __wrap_syscall(long number, ...);
+static _Atomic bool goes_on, is_going; /* the thread that set this wakes the consumer next when that has something to do */
+static _Atomic uint32_t blocked;       /* so many times */
+
+long __wrap_syscall(long number, ...) {
+    va_list rest;
+    long words[6];
+    va_start(rest, number);
+    for (size_t i = 0; i < 6; i++) words[i] = va_arg(rest, long);
+    va_end(rest);
+    if (is_going && number == SYS_futex) goes_on = true;
+    return __real_syscall(number, words[0], words[1], words[2], words[3], words[4], words[5]);
+}
+
+static void block(void) {
+    blocked++;
+    while (!goes_on) usleep(1000);
+    goes_on = false;
+}
+
+static void until_blocked(uint32_t times) {
+    for (int waits = 0; blocked < times && waits < TOLD_WITHIN_MS; waits++) usleep(1000);
+    if (CHECK(blocked == times)) return;
+    exit(check_end());
+}
+
+/* ---- A crash, with a bound on disk: what other threads keep meanwhile is written after it, and then its key is told. ---- */
+
+enum { FIRST = OF_PATHS, BEFORE_CRASH, IN_CRASH, BESIDE_CRASH };
+static _Atomic uint32_t told_times[4];
+static sigjmp_buf after_crash;
+
+static void looks_in_crash(void *unused, uint64_t high, uint64_t low) {
+    looks_for_path(unused, high, low);
+    told_times[low - FIRST]++;
+    if (low == FIRST) block();
+}
+
+static void *keeps_beside(void *unused) {
+    sem_wait(&may_go);
+    keep_with_key(BESIDE_CRASH);
+    sem_post(&has_gone);
+    while (!is_over) usleep(1000);
+    return unused;
+}
+
+/* The crash's path is being written, so that its thread's lane is the consumer's, and the other one is free. */
+static void keep_beside_crash(const uint8_t *bytes, size_t len) {
+    if (find_number(bytes, bytes + len, IN_CRASH) != NULL) let_go(bytes, len);
+}
+
+static void recovers(int signal) {
+    is_going = false;
+    siglongjmp(after_crash, signal);
+}
+
+/* The keys of what was kept before the crash, and of the crash's own path, are told before the program's handler goes on. */
+static void mode_told_in_bounded_crash(void) {
+    const struct sigaction action = { .sa_handler = recovers };
+    static char own[4300];
+    pthread_t beside;
+    dspec_path path;
+    snprintf(own, sizeof own, "%s-%d", folder, (int)getpid()); /* the first of its folders is number 0 */
+    folder = own;
+    part = ".0";
+    sem_init(&may_go, 0, 0);
+    sem_init(&has_gone, 0, 0);
+    sigaction(SIGSEGV, &action, NULL);
+    begin((dspec_tracer_options){ .lanes = 2, .period_ms = 1, .crash_ms = TOLD_WITHIN_MS, .max_bytes = 10 << 20, .park_bytes = 4096, .on_keep = looks_in_crash });
+    pthread_create(&beside, NULL, keeps_beside, NULL);
+    keep_with_key(FIRST);
+    until_blocked(1);
+    keep_with_key(BEFORE_CRASH);
+    path = dspec_path_begin(&tracer);
+    CHECK(query_in(&path, IN_CRASH, 0) == DSPEC_OK && dspec_path_key(&path, KEY_HIGH, IN_CRASH));
+    before_write = keep_beside_crash;
+    is_going = true;
+    if (sigsetjmp(after_crash, 1) == 0) raise(SIGSEGV);
+    CHECK(told_times[BEFORE_CRASH - FIRST] == 1 && told_times[IN_CRASH - FIRST] == 1 && before_write == NULL);
+    all_are_told(4);
+    dspec_path_drop(&path);
+    is_over = true;
+    pthread_join(beside, NULL);
+    ended(true);
+}
+
+/* ---- A stop that finds more keys than may wait to be told, of which some are on a lane that can't be had. ---- */
+
+enum { ON_STUCK = 300, AT_STOP = 4096, LAST_BLOCK = OF_PATHS + ON_STUCK + 1, ALL_KEYS = 1 + ON_STUCK + 1 + AT_STOP };
+
+static void looks_at_stop(void *unused, uint64_t high, uint64_t low) {
+    looks_for_path(unused, high, low);
+    if (low == OF_PATHS || low == LAST_BLOCK) {
+        block();
+    } else {
+        may_leave = true;
+        is_over = true;
+    }
+}
+
+static void *keeps_and_calls(void *unused) {
+    callers = dspec_path_begin(&tracer);
+    query_in(&callers, 1, 0);
+    for (uint64_t i = 1; i <= ON_STUCK; i++) keep_with_key(OF_PATHS + i);
+    return calls_on(unused);
+}
+
+/* The thread in whose call the lane is leaves it as soon as a key is told, so that all is written before its keys are. What is parked by the key that comes last is kept too. */
+static void mode_told_at_stop(void) {
+    dspec_tracer_report report;
+    begin((dspec_tracer_options){ .lanes = 2, .bufsize = 1 << 20, .period_ms = 1, .park_bytes = 4096, .on_keep = looks_at_stop });
+    park(LAST_BLOCK + AT_STOP);
+    keep_with_key(OF_PATHS);
+    until_blocked(1);
+    start_caller(keeps_and_calls);
+    make_caller_stay();
+    keep_with_key(LAST_BLOCK);
+    goes_on = true;
+    until_blocked(2);
+    for (uint64_t i = 1; i <= AT_STOP; i++) keep_with_key(LAST_BLOCK + i);
+    is_going = true;
+    report = ended(true);
+    let_caller_leave();
+    CHECK(report.keys_refused == 0 && report.kept == ALL_KEYS + 1 && report.park_kept == 1);
+    all_are_told(ALL_KEYS);
 }
 
 static const struct {
@@ -729,6 +877,7 @@ static const struct {
     { "stuck", mode_stuck }, { "without", mode_without }, { "closed", mode_closed }, { "closed_bound", mode_closed_bound }, { "closed_survive", mode_closed_survive },
     { "forbidden", mode_forbidden }, { "thread", mode_thread }, { "full_stop", mode_full_stop }, { "full_for_a_while", mode_full_for_a_while },
     { "told_of_full_buffers", mode_told_of_full_buffers }, { "told_after_full_disk", mode_told_after_full_disk },
+    { "told_in_bounded_crash", mode_told_in_bounded_crash }, { "told_at_stop", mode_told_at_stop },
     { "parked_for_a_while", mode_parked_for_a_while }, { "parked_stop", mode_parked_stop }, { "parked_evicted", mode_parked_evicted }, { "parked_expired", mode_parked_expired },
     { "parked_beside_flush", mode_parked_beside_flush },
 };

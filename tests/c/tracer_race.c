@@ -60,9 +60,9 @@ static void on_step(int signal) {
     else sched_yield();
 }
 
-/* From here on, or no longer, the processor traps after each instruction. */
+/* From here on, or no longer, the processor traps after each instruction. ThreadSanitizer blocks that signal in its own code, where it would end the process. */
 static inline void step(bool is_on) {
-#if defined(__x86_64__)
+#if defined(__x86_64__) && !defined(__SANITIZE_THREAD__)
     if (is_on) __asm__ volatile("pushfq\n\torq $0x100, (%%rsp)\n\tpopfq" ::: "memory", "cc");
     else __asm__ volatile("pushfq\n\tandq $~0x100, (%%rsp)\n\tpopfq" ::: "memory", "cc");
 #else

@@ -1,8 +1,9 @@
 /* What a thread has in a tracer. `tracer_seat FOLDER steps`: a signal's handler comes after each of the first instructions of a record, and begins a path of its own or ends it. The thread isn't in
- * the tracer there, so its record is made all the same; this needs a processor that traps after each instruction. `tracer_seat FOLDER tokens`, over a library that has so many numbers for threads as
+ * the tracer there, so its record is made all the same. Then it comes after each second instruction of a path's first record, and makes a record in no path: the lane that has the path is in use after that. This
+ * needs a processor that traps after each instruction. `tracer_seat FOLDER tokens`, over a library that has so many numbers for threads as
  * TOKENS says: threads after these are refused, and counted. The last line counts the checks. */
 #define _GNU_SOURCE
-#include "dspec_tracer.h"
+#include "dspec/tracer_record.h"
 
 #include "check.h"
 
@@ -17,9 +18,9 @@
 DSPEC_PROBE(query, uint64_t, request, uint32_t, step);
 DSPEC_PROBE(tick, uint64_t, number);
 
-enum { MOST = 300 };
-/* What the handler does with its path. */
-typedef enum deed { BEGINS, ENDS, BEGINS_AND_ENDS } deed;
+enum { MOST = 300, MOST_OF_A_BEGIN = 5000, PATHS_BEFORE = 200 };
+/* What the handler does with its path; or it makes a record in none. */
+typedef enum deed { BEGINS, ENDS, BEGINS_AND_ENDS, RECORDS } deed;
 
 static dspec_tracer tracer;
 static dspec_path handlers; /* the handler's path */
@@ -49,6 +50,10 @@ static void on_step(int signal, siginfo_t *info, void *context) {
     (void)signal, (void)info;
     if (++at != wanted) return;
     no_more_steps(context);
+    if (due == RECORDS) {
+        tick_now(&tracer, 5);
+        return;
+    }
     if (due != ENDS) was_refused = query_in(&handlers, 1, 0) != DSPEC_OK;
     if (due != BEGINS) was_refused = !dspec_path_drop(&handlers);
 }
@@ -82,6 +87,37 @@ static int comes_anywhere(bool in_path, deed what) {
     return count;
 }
 
+/* Whether a path's lane is its thread's own, and nobody takes it over. */
+static bool is_in_use(const dspec_path *path) {
+    const dspec_tracer_seat *seat = dspec_tracer_seat_of_(&tracer);
+    return seat->own == path->lane && (seat->kept == 0 || *dspec_tracer_flag_(path->lane, seat->kept) == DSPEC_TRACER_IN_USE_);
+}
+
+/* On a lane that the thread keeps, also where the consumer has found that empty. */
+static void stays_in_use(bool is_idle) {
+    enum { IDLE = 8 }; /* of a lane's state */
+    const dspec_tracer_seat *seat = dspec_tracer_seat_of_(&tracer);
+    for (int i = 0; i < PATHS_BEFORE; i++) {
+        dspec_path path = dspec_path_begin(&tracer);
+        CHECK(query_in(&path, 2, 0) == DSPEC_OK && dspec_path_drop(&path));
+    }
+    at = wanted = 1;
+    for (due = RECORDS; at == wanted && wanted < MOST_OF_A_BEGIN;) {
+        dspec_path path = dspec_path_begin(&tracer);
+        dspec_status status;
+        CHECK(seat->kept != 0);
+        if (is_idle) __atomic_fetch_or(&seat->last->state, IDLE, __ATOMIC_SEQ_CST);
+        wanted += 2;
+        at = 0;
+        step(true);
+        status = query_in(&path, 2, 0);
+        step(false);
+        if (!CHECK(status == DSPEC_OK && is_in_use(&path))) printf("a record after instruction %d of a path's begin (idle: %d): %s, in use %d\n", wanted, is_idle, dspec_status_text(status), is_in_use(&path));
+        CHECK(dspec_path_drop(&path));
+    }
+    CHECK(wanted > MOST && wanted < MOST_OF_A_BEGIN);
+}
+
 static void steps(void) {
 #if defined(__x86_64__)
     struct sigaction action = { .sa_flags = SA_SIGINFO };
@@ -90,6 +126,8 @@ static void steps(void) {
     tick_now(&tracer, 0);
     for (int in_path = 0; in_path < 2; in_path++)
         for (int what = BEGINS; what <= BEGINS_AND_ENDS; what++) CHECK(comes_anywhere(in_path, (deed)what) > 10);
+    stays_in_use(false);
+    stays_in_use(true);
 #else
     printf("left out: how this processor traps after an instruction isn't known here\n");
     CHECK(true);
