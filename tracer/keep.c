@@ -156,7 +156,7 @@ static dspec_status keep_parts(struct lane *lane, open_path *path, uint32_t plac
     return status == DSPEC_OK || status == DSPEC_BUSY ? status : DSPEC_LOST;
 }
 
-/* A path that is kept since its key was tells nobody of that. What the consumer keeps is written before its key is heard, but on a disk that is waited for, so that it counts as on the consumer's own lane. */
+/* A path that is kept since its key was tells nobody of that. What the consumer keeps is written before its key is heard, so it counts as on the consumer's own lane. On a disk that is waited for it isn't. */
 static void path_tells_key(const struct lane *lane, const open_path *opened, room has) {
     body *tracer = lane->tracer;
     const uint32_t number = has == EMPTY_ROOM && !kept_waits_for_disk(tracer) ? tracer->count : lane->number;

@@ -849,7 +849,7 @@ static void *keeps_and_calls(void *unused) {
     return calls_on(unused);
 }
 
-/* The thread in whose call the lane is leaves it as soon as a key is told, so that all is written before its keys are. What is parked by the key that comes last is kept too. */
+/* The thread in whose call the lane is leaves it as soon as a key is told. So all is written before its keys are told. What is parked by the key that comes last is kept too. */
 static void mode_told_at_stop(void) {
     dspec_tracer_report report;
     begin((dspec_tracer_options){ .lanes = 2, .bufsize = 1 << 20, .period_ms = 1, .park_bytes = 4096, .on_keep = looks_at_stop });
